@@ -1,0 +1,1 @@
+// Interval rules: the definitions stand in specs/.

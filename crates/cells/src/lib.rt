@@ -1,0 +1,1 @@
+// The meaning of a node: the definitions stand in specs/.

@@ -1,0 +1,1 @@
+// Packed plans: the definitions stand in specs/.

@@ -1,0 +1,4 @@
+pub mod Integers
+pub mod Lists
+pub mod Numbering
+pub mod Store

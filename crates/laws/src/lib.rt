@@ -1,0 +1,1 @@
+// Mathematics that no paper owns; definitions in specs/, laws in proofs/.

@@ -1,0 +1,4 @@
+pub mod Operations
+pub mod Types
+pub mod Words
+pub mod Answers

@@ -1,0 +1,1 @@
+// The run of a plan: the definitions stand in specs/.

@@ -1,0 +1,1 @@
+// Shape rules and source elements: the definitions stand in specs/.
