@@ -1,0 +1,12 @@
+pub mod Booleans
+pub mod Lists
+pub mod Parts
+pub mod Order
+pub mod Extremes
+pub mod Product
+pub mod Floor
+pub mod Absolute
+pub mod Machine
+pub mod Sums
+pub mod Numbering
+pub mod Store
