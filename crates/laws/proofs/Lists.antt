@@ -39,6 +39,12 @@ unfolding tab
 tab-map h zero f = refl
 tab-map h (suc n) f = rw (tab-map h n (λ k. f (suc k)))
 
+-- an element that is there, whatever stands past the end
+pub getD-map : {A B : Type 0} (f : A → B) (xs : List A) (k : ℕ) (d : B) (d′ : A) → k < length xs → getD (map f xs) k d ≡ f (getD xs k d′)
+getD-map f [] k d d′ h = absurd (not-suc-le-zero h)
+getD-map f (x ∷ xs) zero d d′ h = refl
+getD-map f (x ∷ xs) (suc k) d d′ h = getD-map f xs k d d′ (le-of-suc-le-suc h)
+
 -- its parts, and one more
 pub take-tab : {A : Type 0} (i n : ℕ) (f : ℕ → A) → i ≤ n → take i (tab n f) ≡ tab i f
 unfolding tab

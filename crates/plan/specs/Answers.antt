@@ -1,5 +1,6 @@
 -- What a call answers and what it leaves in a buffer.
 use Prim.Native.Nat.{ℕ, zero, suc}
+use mathlib.Core.Path.{_≡_}
 use mathlib.Core.Bool.{Bool, true, false, cond}
 use mathlib.Core.List.{List, [], _∷_, _++_}
 use lib.ListN.{length, drop}
@@ -39,6 +40,16 @@ pub data Rule : Type 0 where
 abbrev pub inOrder : {A : Type 0} → List Rule → ℕ → Outcome A → Outcome A
 inOrder [] place next = next
 inOrder (rule number test ∷ rules) place next = need test number place (inOrder rules place next)
+
+-- every rule holds
+abbrev pub AllHold : List Rule → Type 0
+AllHold [] = Unit
+AllHold (rule number test ∷ rules) = (test ≡ true) × AllHold rules
+
+-- the rules before it hold, and the one with this number fails
+pub data FirstFailing : List Rule → ℕ → Type 0 where
+  here : {number : ℕ} {rules : List Rule} → FirstFailing (rule number false ∷ rules) number
+  later : {number failing : ℕ} {rules : List Rule} → FirstFailing rules failing → FirstFailing (rule number true ∷ rules) failing
 
 -- "0 is accepted, place 0"; "Every refusal gives its number, a place (0 where none is named) and 0 for every count".
 -- What a call counts is its own: unpack its nodes, a run the gaps of its output, the others nothing.

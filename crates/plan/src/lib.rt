@@ -1,4 +1,11 @@
-// The vocabulary of plans: number kinds, rows, nodes, intervals and answers.
+// The vocabulary of plans: number kinds, rows, nodes, intervals and answers, and what decodes them.
+ghost use mathlib.Core.Path.{_≡_};
+ghost use Prim.Native.Nat.{_+_, _*_, _/_, _%_, _^_, _<_, _≤_};
+ghost use lib.Dec.{eqb};
+ghost use lib.ListN.{length, getD};
+ghost use Rattle.plan.specs.Operations.{masks};
+ghost use Rattle.plan.specs.Types.{rangeOf};
+ghost use Rattle.plan.specs.Words.{sizeOf, sizeAt, rowAt, nodeOf, nodeAt};
 
 // The number of a node in its plan. Never taken for an element number.
 pub struct NodeNumber(pub usize);
@@ -41,4 +48,152 @@ pub struct Answer {
     pub number: u64,
     pub place: u64,
     pub count: u64,
+}
+
+// The words that each operation uses, by its number: bit k for word k.
+const MASKS: [usize; 21] = [
+    48,
+    8176,
+    7682,
+    7682,
+    7682,
+    7682,
+    130562,
+    130562,
+    18,
+    6,
+    6,
+    6,
+    6,
+    6,
+    6,
+    6,
+    6,
+    6,
+    14,
+    7714,
+    66,
+];
+
+// The mask of an operation, 0 where there is no such operation.
+pub fn used_mask(op: usize) -> usize
+    ensures { λ r. ⌜ r ≡ getD masks op 0 ⌝ }
+{
+    if op < 21 {
+        return MASKS[op];
+    }
+    0
+}
+
+// A mask's bit for word k.
+pub fn uses_word(mask: usize, k: usize) -> bool
+    requires { ⌜ k < 17 ⌝ }
+    ensures { λ r. ⌜ r ≡ eqb (mask / 2 ^ k % 2) 1 ⌝ }
+{
+    (mask >> k) % 2 == 1
+}
+
+// The whole numbers of a type.
+pub fn type_range(t: usize) -> Interval
+    ensures { λ r. ⌜ r ≡ rangeOf t ⌝ }
+{
+    match t {
+        0 => Interval { low: 0, high: 1 },
+        1 => Interval { low: 0, high: 255 },
+        2 => Interval {
+            low: -32768,
+            high: 32767,
+        },
+        3 => Interval {
+            low: -2147483648,
+            high: 2147483647,
+        },
+        _ => Interval { low: 0, high: 0 },
+    }
+}
+
+// A word as a count, the largest number where it is negative.
+pub fn size_of_word(w: i64) -> usize
+    ensures { λ r. ⌜ r ≡ sizeOf w ⌝ }
+{
+    if w < 0 {
+        return 18446744073709551615;
+    }
+    w as usize
+}
+
+// The word at a place of a table, as a count.
+fn size_at(table: &[i64], at: usize) -> usize
+    requires { ⌜ at < length (now table) ⌝ }
+    ensures { λ r. ⌜ r ≡ sizeAt (now (table .entry)) at ⌝ }
+{
+    size_of_word(table[at])
+}
+
+// The four words from a place of a table on.
+pub fn row_at(table: &[i64], at: usize) -> Row
+    requires { ⌜ at + 4 ≤ length (now table) ⌝ }
+    ensures { λ r. ⌜ r ≡ rowAt (now (table .entry)) at ⌝ }
+{
+    Row {
+        r0: size_at(table, at),
+        r1: size_at(table, at + 1),
+        r2: size_at(table, at + 2),
+        r3: size_at(table, at + 3),
+    }
+}
+
+// The node that seventeen words are.
+fn node_of(words: &[i64]) -> Node
+    requires { ⌜ length (now words) ≡ 17 ⌝ }
+    ensures { λ r. ⌜ r ≡ nodeOf (now (words .entry)) ⌝ }
+{
+    let first = row_at(words, 0);
+    let rowa = row_at(words, 9);
+    let rowb = row_at(words, 13);
+    Node {
+        op: first.r0,
+        source1: NodeNumber(first.r1),
+        source2: NodeNumber(first.r2),
+        source3: NodeNumber(first.r3),
+        dtype: size_at(words, 4),
+        number: words[5],
+        device: size_at(words, 6),
+        low: words[7],
+        high: words[8],
+        rowa: rowa,
+        rowb: rowb,
+    }
+}
+
+// Node n of a table.
+pub fn node_at(table: &[i64], n: usize) -> Node
+    requires { ⌜ 17 * n + 17 ≤ length (now table) ⌝ }
+    ensures { λ r. ⌜ r ≡ nodeAt (now (table .entry)) n ⌝ }
+{
+    let start = 17 * n;
+    let end = start + 17;
+    node_of(&table[start..end])
+}
+
+// The answer of a call that accepts.
+pub fn accepted(count: u64) -> Answer
+    ensures { λ r. ⌜ r ≡ record { number = 0; place = 0; count = count } ⌝ }
+{
+    Answer {
+        number: 0,
+        place: 0,
+        count: count,
+    }
+}
+
+// The answer of a call that refuses.
+pub fn refused(number: u64, place: u64) -> Answer
+    ensures { λ r. ⌜ r ≡ record { number = number; place = place; count = 0 } ⌝ }
+{
+    Answer {
+        number: number,
+        place: place,
+        count: 0,
+    }
 }

@@ -1,0 +1,66 @@
+-- What holds of each row of a table holds of every operation.
+use Prim.Native.Nat.{ℕ, _<_}
+use mathlib.Core.Path.{_≡_, refl, sym, subst}
+use mathlib.Core.Bool.{Bool, true, false, _||_, cond, false≢true}
+use mathlib.Core.List.{List, [], _∷_, _++_}
+use borrow.Author.Tests.{eqb-true}
+use lib.Dec.{eqb}
+use Rattle.laws.specs.Lists.{allBelow, among}
+use Rattle.laws.proofs.Booleans.{or-true, cond-both, all-below}
+use Rattle.plan.specs.Operations.{Entry, _⇒_, byOperation, operationsOf, coversAll, operationCount}
+
+-- P holds of each row's value where the row is the operation's
+abbrev pub EachRow : {A : Type 0} → (A → Type 0) → ℕ → List (Entry A) → Type 0
+EachRow P op [] = Unit
+EachRow P op ((ops ⇒ a) ∷ rows) = (among op ops ≡ true → P a) × EachRow P op rows
+
+-- one row's answer before those of the other rows
+infixr 30 _then_
+abbrev pub _then_ : {A B : Type 0} → A → B → A × B
+a then b = (a, b)
+
+pub by-rows : {A : Type 0} (P : A → Type 0) (op : ℕ) (rows : List (Entry A)) (other : A) → EachRow P op rows → P other → P (byOperation op rows other)
+by-rows P op [] other h p = p
+by-rows P op ((ops ⇒ a) ∷ rows) other h p = cond-both P (among op ops) a (byOperation op rows other) (h .0) (λ e. by-rows P op rows other (h .1) p)
+
+among-append : (k : ℕ) (xs ys : List ℕ) → among k (xs ++ ys) ≡ (among k xs || among k ys)
+unfolding among
+among-append k [] ys = refl
+among-append k (x ∷ xs) ys = go (eqb k x) (among-append k xs ys)
+  where
+    go : (b : Bool) → among k (xs ++ ys) ≡ (among k xs || among k ys) → (b || among k (xs ++ ys)) ≡ ((b || among k xs) || among k ys)
+    go true e = refl
+    go false e = e
+
+-- no row for the numbers that are no operation is needed where the operation has one
+listed : {A : Type 0} (P : A → Type 0) (op : ℕ) (rows : List (Entry A)) (other : A) → among op (operationsOf rows) ≡ true → EachRow P op rows → P (byOperation op rows other)
+unfolding among
+listed P op [] other m h = absurd (false≢true m)
+listed P op ((ops ⇒ a) ∷ rows) other m h =
+    go (among op ops) refl (rw (among-append op ops (operationsOf rows)) at m) (λ e. listed P op rows other e (h .1))
+  where
+    go : (b : Bool) → among op ops ≡ b → (b || among op (operationsOf rows)) ≡ true → (among op (operationsOf rows) ≡ true → P (byOperation op rows other))
+        → P (cond b a (byOperation op rows other))
+    go true q e next = h .0 q
+    go false q e next = next e
+
+pub by-operation : {A : Type 0} (P : A → Type 0) (op : ℕ) (rows : List (Entry A)) (other : A) → coversAll rows ≡ true → op < operationCount → EachRow P op rows
+    → P (byOperation op rows other)
+by-operation P op rows other c h each = listed P op rows other (all-below operationCount (λ (op : ℕ). among op (operationsOf rows)) c op h) each
+
+-- ---- a group of operations, one by one
+
+abbrev pub EachOf : (ℕ → Type 0) → List ℕ → Type 0
+EachOf P [] = Unit
+EachOf P (k ∷ ks) = P k × EachOf P ks
+
+pub for-group : (P : ℕ → Type 0) (op : ℕ) (ops : List ℕ) → EachOf P ops → among op ops ≡ true → P op
+unfolding among
+for-group P op [] each m = absurd (false≢true m)
+for-group P op (k ∷ ks) each m =
+    or-true (eqb op k) (among op ks) m (λ q. subst P (sym (eqb-true op k q)) (each .0)) (λ q. for-group P op ks (each .1) q)
+
+-- the only one of a row
+pub only : (op k : ℕ) → among op (k ∷ []) ≡ true → op ≡ k
+unfolding among
+only op k m = or-true (eqb op k) false m (eqb-true op k) (λ q. absurd (false≢true q))

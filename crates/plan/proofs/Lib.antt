@@ -1,0 +1,5 @@
+pub mod Masks
+pub mod Decoding
+pub mod ByOperation
+pub mod Outcomes
+pub mod Facts

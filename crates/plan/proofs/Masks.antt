@@ -1,0 +1,38 @@
+-- The masks: bit k of an operation's mask is set exactly where the operation uses word k, and what is no operation uses nothing.
+use Prim.Native.Nat.{ℕ, _<_, _≤_, _^_, _/_, _%_}
+use mathlib.Core.Path.{_≡_, refl, sym}
+use mathlib.Core.Bool.{Bool, true, false, false≢true}
+use lib.Dec.{eqb}
+use lib.ListN.{getD, List·getD-eq-default}
+use Rattle.laws.specs.Lists.{allBelow, among}
+use Rattle.laws.proofs.Booleans.{all-below}
+use Rattle.plan.specs.Operations.{uses, maskOf, masks, operationCount}
+
+abbrev same : Bool → Bool → Bool
+same true b = b
+same false true = false
+same false false = true
+
+same-is : (b c : Bool) → same b c ≡ true → b ≡ c
+same-is true c e = sym e
+same-is false true e = absurd (false≢true e)
+same-is false false e = refl
+
+-- the bit for word k, and the test that it says what the used words say
+abbrev bit : ℕ → ℕ → Bool
+bit op k = eqb (getD masks op 0 / 2 ^ k % 2) 1
+
+abbrev right : ℕ → ℕ → Bool
+right op k = same (bit op k) (uses op k)
+
+table : allBelow operationCount (λ (op : ℕ). allBelow 17 (right op)) ≡ true
+unfolding allBelow among uses maskOf masks
+table = refl
+
+pub mask-bit : (op k : ℕ) → op < operationCount → k < 17 → eqb (getD masks op 0 / 2 ^ k % 2) 1 ≡ uses op k
+mask-bit op k h l =
+    same-is (bit op k) (uses op k) (all-below 17 (right op) (all-below operationCount (λ (op : ℕ). allBelow 17 (right op)) table op h) k l)
+
+pub mask-none : (op : ℕ) → operationCount ≤ op → getD masks op 0 ≡ 0
+unfolding masks
+mask-none op h = List·getD-eq-default masks 0 {n = op} h

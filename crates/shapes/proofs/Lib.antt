@@ -1,0 +1,4 @@
+pub mod Tables
+pub mod Extents
+pub mod Broadcast
+pub mod Sources

@@ -1,0 +1,723 @@
+"""Deterministic generator of small test cases for the rules in model.py.
+
+Each group is a function of a count and a seed; all_cases yields them all.
+expected(case) runs the model on fresh buffers.
+"""
+
+from dataclasses import dataclass
+from itertools import count as count_from
+from itertools import islice
+from math import prod
+from random import Random
+
+import model
+from model import (ADD, AND, CAST, CMPLT, CMPNE, CONST, EXPAND, FLIP, IDIV, LOAD, MAX,
+                   MOD, MUL, OR, PAD, PARAM, PERMUTE, REDUCE, RESHAPE, SHRINK, WHERE)
+
+BIG = 2 ** 63
+LARGE = 1048576
+LIMITS = sorted({e + d for low_high in model.TYPE_LIMITS.values()
+                 for e in low_high for d in (-1, 0, 1)})
+EDGES = sorted({*LIMITS, -BIG, BIG - 1, 2, 3, 4, 15, 16, 17, 20, 21, LARGE - 1, LARGE,
+                LARGE + 1, 2 ** 32, -2 ** 32, 2 ** 62})
+SMALL_INTERVALS = [(0, 1), (1, 1), (0, 0), (1, 3), (2, 2), (0, 5), (4, 9), (-3, -1),
+                   (-7, 7), (-5, -2), (-1, -1), (-4, 10), (-1, 0)]
+
+
+@dataclass(frozen=True)
+class Case:
+    call: str
+    args: tuple
+    note: str
+
+
+def fresh_words(room):
+    return [1000 + k for k in range(room)]
+
+
+def fresh_flags(room):
+    return [2 + k % 200 for k in range(room)]
+
+
+def expected(case):
+    """The model's answer, and the buffers that the call can write, afterwards."""
+    if case.call == 'run':
+        *inputs, value_room, flag_room = case.args
+        buffers = (fresh_words(value_room), fresh_flags(flag_room))
+        return model.run(*inputs, *buffers), buffers
+    if case.call in ('unpack', 'check'):
+        source, room = case.args
+        buffers = (fresh_words(room),)
+        return getattr(model, case.call)(source, *buffers), buffers
+    return getattr(model, case.call)(*case.args), ()
+
+
+# ------------------------------------------------------------ writing nodes
+
+def node(op, words=None):
+    row = [op] + [0] * 16
+    for word, value in (words or {}).items():
+        row[word] = value
+    return row
+
+
+def row(first, items):
+    return {first + k: item for k, item in enumerate(items)}
+
+
+def const(dtype, value):
+    return node(CONST, {4: dtype, 5: value})
+
+
+def param(slot, dtype, low, high, extents, device=1):
+    return node(PARAM, {4: dtype, 5: slot, 6: device, 7: low, 8: high, **row(9, extents)})
+
+
+def move(op, source, row_a, row_b=()):
+    return node(op, {1: source, **row(9, row_a), **row(13, row_b)})
+
+
+def apply(op, *sources):
+    return node(op, row(1, sources))
+
+
+def reduce_node(source, number, flags):
+    return node(REDUCE, {1: source, 5: number, **row(9, flags)})
+
+
+def packed_numbers(table):
+    """The plain numbers of a packed plan; no rule is asked of the table."""
+    numbers = [len(table) // 17]
+    for first in range(0, len(table), 17):
+        words = table[first:first + 17]
+        numbers.append(words[0])
+        if words[0] <= 20:
+            used = [words[w] for w in model.USED_WORDS[words[0]]]
+            numbers += [2 * n if n >= 0 else -2 * n - 1 for n in used]
+    return numbers
+
+
+def number_bytes(number):
+    groups = []
+    while number >= 128:
+        groups.append(number % 128 + 128)
+        number //= 128
+    return bytes(groups + [number])
+
+
+def pack(table):
+    return b''.join(map(number_bytes, packed_numbers(table)))
+
+
+# ------------------------------------------------------------- valid plans
+
+class Plan:
+    """A small table that takes a node only where the model accepts it."""
+
+    def __init__(self, most_elements=40):
+        self.table, self.records, self.most = [], [], most_elements
+
+    def add(self, words):
+        if words is None or len(self.records) == 12:
+            return False
+        number, rest = model.verdict(self.table + words)
+        if number or sum(prod(r.extents) for r in rest) > self.most:
+            return False
+        self.table, self.records = self.table + words, rest
+        return True
+
+    def params(self):
+        return [r for k, r in enumerate(self.records) if self.table[17 * k] == PARAM]
+
+    def total(self):
+        return sum(prod(r.extents) for r in self.records)
+
+
+def random_interval(rng, dtype):
+    least, greatest = model.TYPE_LIMITS[dtype]
+    if rng.random() < 0.15:
+        return rng.choice([(least, greatest), (least, least), (greatest, greatest)])
+    return rng.choice([i for i in SMALL_INTERVALS if least <= i[0] and i[1] <= greatest])
+
+
+def random_param(rng, plan, dtype, base):
+    """A PARAM whose extents broadcast with base."""
+    extents = [e if rng.random() < 0.75 else 1 for e in base]
+    if rng.random() < 0.3:
+        extents = extents[rng.randint(0, len(extents)):]
+    low, high = random_interval(rng, dtype)
+    device = rng.choice((1, 1, 1, 1, 1, 1, 7, 255))
+    return param(len(plan.params()), dtype, low, high, extents, device)
+
+
+def random_row(rng, op, source):
+    """Rows A and B that fit the operation and its source."""
+    if op == PERMUTE:
+        return rng.sample(range(len(source)), len(source)), ()
+    if op in (FLIP, REDUCE):
+        return [rng.randint(0, 1) for _ in source], ()
+    if op == EXPAND:
+        return [rng.randint(1, 3) if e == 1 else e for e in source], ()
+    if op == RESHAPE:
+        left, extents = prod(source), []
+        while len(extents) < 3 and (left > 1 or rng.random() < 0.5):
+            extents.append(rng.choice([d for d in range(1, left + 1) if left % d == 0]))
+            left //= extents[-1]
+        return extents + [left] * (left > 1), ()
+    offsets = [rng.randint(0, 2 if op == PAD else e - 1) for e in source]
+    if op == PAD:
+        return [o + e + rng.choice((0, 0, 1)) for o, e in zip(offsets, source)], offsets
+    return [rng.randint(1, e - o) for o, e in zip(offsets, source)], offsets
+
+
+def propose(rng, plan, op, base):
+    """A node of the operation that may be accepted after the plan; or None."""
+    dtype = rng.randint(0, 3)
+    if op == CONST:
+        return const(dtype, rng.choice(random_interval(rng, dtype)))
+    if op == PARAM:
+        return random_param(rng, plan, dtype, base)
+    pick = rng.randrange(len(plan.records))
+    source = plan.records[pick]
+    if op == CAST:
+        return node(CAST, {1: pick, 4: dtype})
+    if op == LOAD:
+        return node(LOAD, {1: pick, 6: rng.choice((1, 2, 128, 255))})
+    if op == REDUCE:
+        return reduce_node(pick, rng.randint(0, 1), random_row(rng, op, source.extents)[0])
+    if PERMUTE <= op <= SHRINK:
+        return move(op, pick, *random_row(rng, op, source.extents))
+    alike = [k for k, r in enumerate(plan.records) if r.dtype == source.dtype]
+    if op != WHERE:
+        return apply(op, pick, rng.choice(alike))
+    bools = [k for k, r in enumerate(plan.records) if r.dtype == 0]
+    return apply(op, rng.choice(bools), pick, rng.choice(alike)) if bools else None
+
+
+def make_plan(rng, op, rank):
+    """An accepted plan with the operation in it, on extents of about that rank."""
+    main = 0 if op in (AND, OR) else rng.randint(1, 3)
+    while True:
+        plan = Plan(rng.choice((40, 40, 40, 120)))
+        base = [rng.choice((1, 2, 2, 3)) for _ in range(rank)]
+        for _ in range(rng.randint(2, 4)):
+            dtype = rng.choice((main, main, main, 0, rng.randint(0, 3)))
+            plan.add(random_param(rng, plan, dtype, base))
+        for _ in range(rng.randint(0, 3) if plan.records else 0):
+            plan.add(propose(rng, plan, rng.randrange(21), base))
+        tries = range(30 if plan.records else 0)
+        if any(plan.add(propose(rng, plan, op, base)) for _ in tries):
+            for _ in range(rng.randint(0, 4)):
+                plan.add(propose(rng, plan, rng.randrange(21), base))
+            return plan
+
+
+def random_inputs(rng, plan, gap_share=0.2):
+    """Accepted values and flags, with garbage under the gaps."""
+    values, flags = [], []
+    for record in plan.params():
+        for _ in range(prod(record.extents)):
+            known = rng.random() >= gap_share
+            inside = rng.choice((record.low, record.high,
+                                 rng.randint(record.low, record.high)))
+            values.append(inside if known else rng.choice(EDGES))
+            flags.append(int(known))
+    return values, flags
+
+
+def run_case(plan, values, flags, note, more=0, more_flags=0):
+    total = plan.total()
+    return Case('run', (plan.table, values, flags, total + more, total + more_flags), note)
+
+
+def valid_plans(count, seed):
+    """Every operation at every rank, run and checked in turn."""
+    rng = Random(f'valid {seed}')
+    made = 0
+    for turn in count_from():
+        op, rank = turn % 21, (turn // 21 + turn) % 5
+        plan = make_plan(rng, op, rank)
+        note = f'valid op {op} rank {rank}'
+        yield run_case(plan, *random_inputs(rng, plan, rng.choice((0, 0.1, 0.4))), note,
+                       rng.choice((0, 0, 3)), rng.choice((0, 0, 2)))
+        yield Case('check', (plan.table, 8 * len(plan.records)), note)
+        made += 2
+        if made >= count:
+            return
+
+
+# ----------------------------------------------- near misses and rule pairs
+# A draft gives a node's words by number, and the features of the PARAMs that are
+# its sources by (source, feature). A break is a change that breaks one rule.
+
+I32_LOW, I32_HIGH = model.TYPE_LIMITS[3]
+SOURCE = {'dtype': 3, 'device': 1, 'low': 1, 'high': 1, 'extents': (2, 3)}
+FOUR_LARGE = row(9, [LARGE] * 4)
+TWO_BOOLS = {(1, 'dtype'): 0, (2, 'dtype'): 0}
+SHAPES = [{(2, 'extents'): (2, 2)}, {(2, 'extents'): (2, 1, 2)}]
+DEVICES = [{(2, 'device'): 2}]
+ARITHMETIC = {6: [{(2, 'dtype'): 2}, TWO_BOOLS], 8: SHAPES, 9: DEVICES}
+DIVIDE = {6: [{(2, 'dtype'): 2}], 8: SHAPES, 9: DEVICES, 10: [{(2, 'high'): 0}]}
+LOGIC = {6: [{(2, 'dtype'): 1}, {(1, 'dtype'): 3, (2, 'dtype'): 3}], 8: SHAPES, 9: DEVICES}
+NEGATIVE = {(2, 'low'): -1, (2, 'high'): -1}
+PAST_RANK = [{11: 1}, {12: 1}]
+DRAFTS = {
+    CONST: ({4: 2, 5: 5}, {5: [{4: 4}, {4: -1}], 11: [{5: BIG - 1}, {5: -32769}]}),
+    PARAM: ({4: 3, 5: 0, 6: 1, 7: -4, 8: 10, 9: 2, 10: 3},
+            {5: [{4: 4}], 8: [FOUR_LARGE, {9: LARGE, 10: 2}],
+             7: [{5: 1}, {5: -1}, {6: 0}, {6: 256}, {7: 2 ** 40}, {10: 0, 11: 3},
+                 {9: -1}, {9: LARGE + 1}], 11: [{8: 2 ** 31}, {7: I32_LOW - 1}]}),
+    PERMUTE: ({9: 1}, {7: [{9: 0}, {9: 2}, {10: 1}, {9: -1}, *PAST_RANK]}),
+    FLIP: ({9: 1}, {7: [{9: 2}, {10: -1}, *PAST_RANK]}),
+    RESHAPE: ({9: 6}, {7: [{9: -6}, {11: 2}, {9: 0, 10: 6}], 8: [{9: 7}, FOUR_LARGE]}),
+    EXPAND: ({9: 4, 10: 3, (1, 'extents'): (1, 3)},
+             {7: [{9: -1}, {12: -1}], 8: [{10: 4}, {10: 0}, {11: 1}, FOUR_LARGE]}),
+    PAD: ({9: 3, 10: 5, 13: 1, 14: 2},
+          {7: [{13: -1}, {13: LARGE + 1}, {15: 1}, {12: -1}],
+           8: [{9: 2}, {14: 3}, {13: LARGE}, {10: 0}, {11: 1}, {9: LARGE, 10: 5}]}),
+    SHRINK: ({9: 1, 10: 2, 13: 1, 14: 1},
+             {7: [{13: -1}, {14: LARGE + 1}, {16: 1}, {12: -1}],
+              8: [{9: 2}, {14: 2}, {14: LARGE}, {10: 0}, {11: 1}]}),
+    CAST: ({4: 1}, {5: [{4: 4}, {4: BIG - 1}],
+                    11: [{(1, 'high'): 256}, {(1, 'low'): -1}, {4: 0, (1, 'high'): 2}]}),
+    ADD: ({}, {**ARITHMETIC, 11: [{(1, 'high'): I32_HIGH}]}),
+    MUL: ({}, {**ARITHMETIC, 11: [{(1, 'high'): I32_HIGH, (2, 'low'): -2}]}),
+    MAX: ({}, ARITHMETIC),
+    IDIV: (NEGATIVE, {**DIVIDE, 11: [{(1, 'low'): I32_LOW}]}),
+    MOD: (NEGATIVE, DIVIDE),
+    CMPLT: ({}, ARITHMETIC),
+    CMPNE: ({}, {**ARITHMETIC, 6: [{(2, 'dtype'): 0}]}),
+    AND: (TWO_BOOLS, LOGIC),
+    OR: (TWO_BOOLS, LOGIC),
+    WHERE: ({(1, 'dtype'): 0},
+            {6: [{(1, 'dtype'): 1}, {(3, 'dtype'): 2}, {(2, 'dtype'): 0}],
+             8: [*SHAPES, {(1, 'extents'): (3, 3)}, {(3, 'extents'): (4,)}],
+             9: [*DEVICES, {(3, 'device'): 255}, {(1, 'device'): 9}]}),
+    REDUCE: ({9: 1}, {6: [{(1, 'dtype'): 0}], 11: [{(1, 'high'): I32_HIGH}],
+                      7: [{5: 2}, {5: -1}, {10: 2}, *PAST_RANK]}),
+    LOAD: ({6: 9}, {7: [{6: 0}, {6: 256}]}),
+}
+
+
+def draft(op, *changes):
+    """The table of PARAMs and the drafted node, with the changes made."""
+    features = {}
+    used = [w for w in (1, 2, 3) if w in model.USED_WORDS[op]]
+    words = row(1, range(len(used)))
+    for change in changes:
+        for key, value in change.items():
+            (words if isinstance(key, int) else features)[key] = value
+    table = []
+    for source in used:
+        feature = {k: features.get((source, k), SOURCE[k]) for k in SOURCE}
+        table += param(source - 1, **feature)
+    return table + node(words.pop(0, op), words)
+
+
+def breaks_of(op):
+    """All (rule, change) of an operation, those that any operation has too."""
+    base, breaks = DRAFTS[op]
+    unused = [w for w in range(1, 17) if w not in model.USED_WORDS[op]]
+    sources = [w for w in (1, 2, 3) if w not in unused]
+    found = [(2, {0: 21}), (2, {0: -1}), (3, {unused[0]: 1}), (3, {unused[-1]: -BIG})]
+    found += [(4, {sources[-1]: v}) for v in (len(sources), -1, BIG - 1)] if sources else []
+    return found + [(rule, b) for rule, several in breaks.items() for b in several]
+
+
+def broken_pairs(op):
+    """All (r, s, table): rules r < s both broken, by changes of different words."""
+    for r, first in breaks_of(op):
+        for s, second in breaks_of(op):
+            if r < s and not first.keys() & second.keys():
+                table = draft(op, DRAFTS[op][0], first, second)
+                if model.verdict(table[:-17])[0] in (0, 1):
+                    yield r, s, table
+
+
+def chosen(rng, items, count, kind):
+    """Up to count items in their order, one of each kind at least."""
+    items = list(items)
+    order = rng.sample(range(len(items)), len(items))
+    first_of = {kind(items[k]): k for k in reversed(order)}
+    keep = set(first_of.values())
+    others = [k for k in order if k not in keep]
+    return [items[k] for k in sorted([*keep, *others[:max(0, count - len(keep))]])]
+
+
+def with_tail(rng, table):
+    """The table, or the table before a further node that is broken or sound."""
+    tails = ([], [], [], const(1, 3), node(99), node(CONST, {1: 5}), apply(ADD, 0, BIG - 1))
+    return table + rng.choice(tails)
+
+
+def near_misses(count, seed):
+    rng = Random(f'misses {seed}')
+    every = [(rule, op, draft(op, DRAFTS[op][0], change))
+             for op in DRAFTS for rule, change in breaks_of(op)]
+    for rule, op, table in chosen(rng, every, count, lambda item: item[:2]):
+        yield Case('check', (with_tail(rng, table), 64), f'rule {rule} op {op}')
+
+
+def rule_pairs(count, seed):
+    rng = Random(f'pairs {seed}')
+    every = [(r, s, op, table) for op in DRAFTS for r, s, table in broken_pairs(op)]
+    for r, s, op, table in chosen(rng, every, count, lambda item: item[:2]):
+        yield Case('check', (with_tail(rng, table), 64), f'rules {r} and {s} op {op}')
+
+
+def edge_words(count, seed):
+    """A word of any operation, or two, replaced by an edge."""
+    rng = Random(f'edges {seed}')
+    with_numbers = [op for op in DRAFTS if max(model.USED_WORDS[op]) > 3]
+    for turn in range(count):
+        op = turn // 4 % 21 if turn % 4 == 0 else rng.choice(with_numbers)
+        words = [w for w in model.USED_WORDS[op] if w > 3] or model.USED_WORDS[op]
+        words = rng.choices(words, k=rng.choice((1, 1, 1, 2)))
+        if rng.random() < 0.15:
+            words[0] = rng.randint(0, 16)
+        change = {word: rng.choice(EDGES) for word in words}
+        table = draft(op, DRAFTS[op][0], change)
+        yield Case('check', (table, 40), f'edge op {op} {change}')
+
+
+def interval_cases(count, seed):
+    """Bounds of every operation that computes, from corners of mixed sign."""
+    rng = Random(f'intervals {seed}')
+    ends = {t: [e for e in (*LIMITS, -7, -3, -2, 2, 5, 9, 16, -46341, 46341) if lo <= e <= hi]
+            + [lo, lo + 1, hi - 1, hi] * 3 for t, (lo, hi) in model.TYPE_LIMITS.items()}
+    ops = (ADD, MUL, MAX, IDIV, MOD, CMPLT, CMPNE, WHERE, REDUCE, CAST, AND, OR,
+           ADD, MUL, IDIV, CAST)
+    for turn in range(count):
+        op = ops[turn % len(ops)]
+        dtype = 0 if op in (AND, OR) else rng.randint(0 if op in (CMPNE, WHERE, CAST) else 1, 3)
+        small = rng.random() < 0.3
+        words = {4: rng.randint(0, 3)} if op == CAST else {}
+        if op == REDUCE:
+            words = {5: rng.randint(0, 3) // 3, 9: rng.randint(0, 1), 10: rng.randint(0, 1)}
+        for source in (1, 2, 3):
+            own = 0 if op == WHERE and source == 1 else dtype
+            pool = [e for e in ends[own] if abs(e) < 50] if small else ends[own]
+            low, high = sorted(rng.choices(pool, k=2))
+            high = low if rng.random() < 0.2 else high
+            if op in (IDIV, MOD) and source == 2 and low <= 0 <= high and rng.random() < 0.8:
+                low, high = (1, high) if high > 0 else (low, -1) if low < 0 else (1, 1)
+            words.update({(source, 'dtype'): own, (source, 'low'): low, (source, 'high'): high})
+        yield Case('check', (draft(op, words), 40), f'interval op {op}')
+
+
+# ------------------------------------------------------------------ limits
+
+def large(*shapes):
+    """PARAMs of the shapes, of one type and device."""
+    return [w for slot, shape in enumerate(shapes) for w in param(slot, 3, 0, 1, shape)]
+
+
+def size_tables():
+    for shape in ((LARGE,), (LARGE, 1, 1), (1024, 1024), (32, 32, 32, 32), (17, 61681),
+                  (1024, 1025), (LARGE, 2), (LARGE + 1,), (LARGE,) * 4, (1, LARGE, 1, 2), ()):
+        yield f'PARAM {shape}', large(shape)
+    for shape in ((1024, 1024), (17, 61681), (LARGE, LARGE), (LARGE, 1), (LARGE + 1, 1)):
+        yield f'EXPAND to {shape}', large((1, 1)) + move(EXPAND, 0, shape)
+        yield f'PAD to {shape}', large((1, 1)) + move(PAD, 0, shape, (1, 0))
+    for sides in ((1024, 1024), (17, 61681)):
+        yield f'broadcast {sides}', large((sides[0], 1), (sides[1],)) + apply(MUL, 0, 1)
+    for columns in (1024, 1025):
+        condition = param(0, 0, 0, 1, (2, 1, 1))
+        table = condition + param(1, 3, 0, 1, (512, 1)) + param(2, 3, 0, 1, (columns,))
+        yield f'WHERE {columns}', table + apply(WHERE, 0, 1, 2)
+    yield 'sum of 1048576', param(0, 3, -2048, 2047, (1024, 1024)) + reduce_node(0, 0, (1, 1))
+    yield 'sum leaves', param(0, 3, -2048, 2048, (1024, 1024)) + reduce_node(0, 0, (1, 1))
+    yield 'max of all', param(0, 3, I32_LOW, I32_HIGH, (LARGE,)) + reduce_node(0, 1, (1,))
+    full = large(*[(LARGE,)] * 4)
+    yield 'exactly 4194304', full
+    yield 'one more than 4194304', full + const(3, 1)
+    flipped = large((LARGE,)) + move(FLIP, 0, (1,)) * 3
+    yield '4194304 by FLIP', flipped
+    yield '4194305 by FLIP', flipped + const(0, 1)
+    for late in (node(99), apply(ADD, 0, 9), const(0, 2), const(4, 0), node(CONST, {1: 1})):
+        yield f'late refusal over 4194304 {late[:6]}', full + const(3, 1) + late
+
+
+def count_tables():
+    """Numbers of nodes, of words and of PARAMs."""
+    for nodes in (0, 1, 255, 256, 257):
+        yield f'{nodes} nodes', const(1, 9) * nodes
+    yield '256 nodes, last refused', const(1, 9) * 255 + apply(ADD, 254, 255)
+    for length in (1, 16, 18, 33, 17 * 256 + 1):
+        yield f'{length} words', (const(2, -9) * 257)[:length]
+    yield '16 PARAMs', large(*[(1,)] * 16)
+    yield '17 PARAMs', large(*[(1,)] * 17)
+    yield '17th PARAM with slot 0', large(*[(1,)] * 16) + large((1,))
+    yield 'slots between nodes', large((2,)) + const(1, 1) + param(1, 1, 0, 3, (2,))
+    yield 'slot by node number', large((2,)) + const(1, 1) + param(2, 1, 0, 3, (2,))
+
+
+def row_tables():
+    """Rows of every kind against a source of every rank."""
+    rows = ((0, 2), (1, 2), (2, 0, 3), (0, 0, 0, 1), (2, 2, 0, 2), (2, 2), (2,),
+            (2, 2, 1), (1, 1, 1, 1))
+    for op in (PARAM, RESHAPE, EXPAND, PAD, SHRINK):
+        for words in rows:
+            table = large(words) if op == PARAM else large((2, 2)) + move(op, 0, words)
+            yield f'shape row op {op} {words}', table
+    for rank in range(5):
+        shape = (2, 3, 1, 2)[:rank]
+        turned = tuple(range(rank))[::-1]
+        for words in (turned, turned + (1,), (0,) * rank, turned[1:] + (rank,), turned[:-1]):
+            yield f'PERMUTE rank {rank} {words}', large(shape) + move(PERMUTE, 0, words[:4])
+        for words in ((1,) * rank, (1,) * min(rank + 1, 4), (2,) * rank, (0, -1)[:rank]):
+            yield f'FLIP rank {rank} {words}', large(shape) + move(FLIP, 0, words)
+            yield f'REDUCE rank {rank} {words}', large(shape) + reduce_node(0, 1, words)
+        grown = tuple(extent + 1 for extent in shape)
+        for past in ((1,) * rank, (2,) * rank, (0,) * rank + (1,), (LARGE,) * rank):
+            yield f'PAD rank {rank} {past}', large(shape) + move(PAD, 0, grown, past[:4])
+    for words in ((3, 3), (3,)):
+        for offsets in ((1,), (1, 1), (0, 0), (1, LARGE + 1), (BIG - 1,), (-BIG,)):
+            yield f'PAD {words} {offsets}', large((2,)) + move(PAD, 0, words, offsets)
+            yield f'SHRINK {words} {offsets}', large((4,)) + move(SHRINK, 0, words, offsets)
+
+
+def limit_cases(count, seed):
+    rng = Random(f'limits {seed}')
+    several = ((note, table, kind) for kind, tables in
+               enumerate((size_tables(), count_tables(), row_tables())) for note, table in tables)
+    for note, table, _ in chosen(rng, several, count, lambda i: i[0] if i[2] < 2 else i[0][:6]):
+        yield Case('check', (table, 8 * (len(table) // 17)), note)
+
+
+# ----------------------------------------------------- buffers and inputs
+
+def buffer_cases(count, seed):
+    """Rooms exact, one short, longer and none, for each call that writes."""
+    rng = Random(f'buffers {seed}')
+
+    def several():
+        while True:
+            plan = make_plan(rng, rng.randrange(21), rng.randint(0, 4))
+            nodes, data = len(plan.records), pack(plan.table)
+            for more in (0, -1, 5):
+                yield Case('unpack', (data, 17 * nodes + more), f'room {more}')
+                yield Case('check', (plan.table, 8 * nodes + more), f'room {more}')
+            yield Case('unpack', (data, 0), 'no room')
+            yield Case('check', (plan.table, 0), 'no room')
+            inputs = random_inputs(rng, plan)
+            for rooms in ((0, 0), (-1, 0), (0, -1), (-1, 9), (4, 7)):
+                yield run_case(plan, *inputs, f'rooms {rooms}', *rooms)
+    return islice(several(), count)
+
+
+def spoil(rng, plan, values, flags, number, position):
+    """Make the position bad in the way of 15 or 16, or of both."""
+    limits = [r for r in plan.params() for _ in range(prod(r.extents))]
+    if number in (15, 'both'):
+        flags[position] = rng.choice((2, 3, 128, 254, 255))
+    if number in (16, 'both'):
+        low, high = limits[position].low, limits[position].high
+        values[position] = rng.choice((low - 1, high + 1, low - 1, high + 1, -BIG, BIG - 1))
+        flags[position] = flags[position] if number == 'both' else 1
+    if number == 'gap':
+        values[position], flags[position] = rng.choice((-BIG, BIG - 1)), 0
+
+
+INPUT_FAULTS = ((15,), (16,), ('both',), ('gap',), (15, 16), (16, 15), (16, 16), (15, 15),
+                ('gap', 16), ('gap', 15), ('both', 16), (16, 'both'))
+
+
+def run_inputs(count, seed):
+    """Input faults 13, 15, 16 by themselves, in both orders, and against 14."""
+    rng = Random(f'inputs {seed}')
+    over = large(*[(LARGE,)] * 4) + const(0, 1)
+    for values, flags in (([], []), ([1], [1]), ([1], []), ([], [0])):
+        yield Case('run', (const(2, -7), values, flags, 1, 1), 'no PARAM')
+        yield Case('run', (over, values, flags, 1, 1), 'over in all')
+    for turn in range(count):
+        while True:
+            plan = make_plan(rng, rng.randrange(21), rng.randint(1, 4))
+            values, flags = random_inputs(rng, plan)
+            if len(values) >= 2:
+                break
+        faults = INPUT_FAULTS[turn % len(INPUT_FAULTS)]
+        places = sorted(rng.sample(range(len(values)), len(faults)))
+        for number, place in zip(faults, places):
+            spoil(rng, plan, values, flags, number, place)
+        rooms, note = (0, 0), f'inputs {faults} at {places}'
+        if turn % 5 == 1:
+            rooms, note = rng.choice(((-1, 0), (0, -1), (-1, -1))), note + ' and 14'
+        if turn % 6 == 2:
+            for short in rng.choice(([values], [flags], [values, flags])):
+                short[:] = rng.choice((short[1:], short + [1], []))
+            note += ' and 13'
+        if turn % 17 == 3:
+            plan.table = plan.table + rng.choice((node(99), const(0, 2), apply(ADD, 0, 99), [7]))
+            note += ' and a refused plan'
+        yield run_case(plan, values, flags, note, *rooms)
+
+
+# ------------------------------------------------------------ packed bytes
+
+FAULTY_NUMBERS = [bytes.fromhex(text) for text in (
+    '8080808080', 'ffffffff8000', 'ffffffff7f', 'feffffff7f', '80808080', '8000', '8080808000',
+    '15', '7f', '9501', '9500', 'ffff03', '')]
+FIXED_BYTES = [bytes.fromhex(text) for text in (
+    '', '00', '01', '80', '8000', '8100', '8102', '8002', '80808080', '8080808080', '8080808000',
+    'ffffffffff', 'ffffffff7f', '0115', '0100', '010004', '0100040a', '0100040a00', '010004d804',
+    '01958001', '0200040a158080', '010080808080', '01008080808080', '018000', '008200',
+    '0200040a8000', '0100040a15', '0200040a0100', '8102ffffffffff', '818000')]
+
+# Two faults at once, for the order of 20, 21, 23, 14, 24 and 22.
+ORDERED_BYTES = [(bytes.fromhex(text), room) for text, room in (
+    ('', 0), ('8000', 0), ('80', 0), ('00', 0), ('8102', 0), ('01', 0), ('0115', 16), ('0115', 17),
+    ('018000', 16), ('0195', 17), ('019500', 17), ('0115808080', 17), ('0100040a15', 16),
+    ('0100040a15', 17), ('0200040a15', 33), ('0200040a15', 34), ('0200040a158000', 34),
+    ('02008000000a15', 34), ('8002', 4351), ('8002', 4352), ('80028000', 4352))]
+
+
+def spoilt_bytes(rng, data_numbers):
+    """One number of a packed plan replaced, padded, or followed by the end."""
+    parts = [number_bytes(n) for n in data_numbers]
+    at = rng.randrange(len(parts))
+    if rng.random() < 0.35:
+        *head, last = parts[at]
+        parts[at] = bytes(head + [last + 128] + [128] * rng.randint(0, 3) + [0])
+    else:
+        parts[at] = rng.choice(FAULTY_NUMBERS)
+    if rng.random() < 0.3:
+        del parts[at + 1:]
+    return b''.join(parts)
+
+
+def byte_strings(rng):
+    """Endless (note, bytes): fixed, then plans whole, cut, lengthened and spoilt."""
+    for data in FIXED_BYTES:
+        yield 'fixed bytes', data
+    data = pack(large((2, 300)) + move(FLIP, 0, (1, 1)) + const(2, -300))
+    for cut in range(len(data) + 1):
+        yield f'cut at {cut}', data[:cut]
+    while True:
+        plan = make_plan(rng, rng.randrange(21), rng.randint(0, 4))
+        numbers = packed_numbers(plan.table)
+        data = pack(plan.table)
+        yield 'whole', data
+        yield 'cut', data[:rng.randrange(len(data))]
+        yield 'bytes appended', data + bytes(rng.choices((0, 128, 255, 1), k=rng.randint(1, 3)))
+        for _ in range(3):
+            yield 'one number spoilt', spoilt_bytes(rng, numbers)
+        yield 'random', bytes([rng.randint(0, 5), *rng.choices(range(256), k=rng.randint(0, 12))])
+        changed = list(plan.table)
+        changed[rng.randrange(len(changed))] = rng.choice([e for e in EDGES if 0 <= e < 2 ** 36])
+        yield 'edge word', pack(changed)
+
+
+def packed_bytes(count, seed):
+    """Each byte string unpacked, or unpacked and checked in one call."""
+    rng = Random(f'bytes {seed}')
+    for data, room in ORDERED_BYTES:
+        yield Case('unpack', (data, room), 'order of refusals')
+    strings = byte_strings(rng)
+    for note, data in islice(strings, count):
+        if rng.random() < 0.25:
+            yield Case('unpack_check', (data,), note)
+        else:
+            room = rng.choice((204,) * 9 + (17, 16, 0))
+            yield Case('unpack', (data, room), note)
+
+
+def packed_plans(count, seed):
+    """Refused and accepted plans by unpack and check in one call."""
+    rng = Random(f'packed {seed}')
+    tables = [table for op in DRAFTS for r, s, table in broken_pairs(op)]
+    tables += [table for _, table in size_tables()] + [const(1, 9) * 256, const(1, 9) * 257]
+    fit = [t for t in tables if all(t[k] >= 0 for k in range(0, len(t), 17))]
+    for table in rng.sample(fit, min(max(0, count - 3), len(fit))) + [const(1, 9) * 256]:
+        yield Case('unpack_check', (pack(table),), 'packed table')
+    late = node(LOAD, {1: 255, 6: 1})
+    yield Case('unpack_check', (pack(const(1, 9) * 255 + late),), 'last of 256 refused')
+    yield Case('unpack_check', (pack(large(*[(LARGE,)] * 4) + const(0, 1)),), 'over in all')
+
+
+# -------------------------------------------------- lookups and listings
+
+def movement_plan(rng, op):
+    """A PARAM under a chain of movements, LOADs and a rare CAST, the op among them."""
+    while True:
+        plan = Plan(150)
+        rank = rng.randint(0 if op in (RESHAPE, LOAD) else 1, 4)
+        extents = [rng.choice((1, 2, 3)) for _ in range(rank)]
+        plan.add(param(0, 2, -5, 5, extents))
+        chain = [op, *rng.choices([*range(PERMUTE, CAST), LOAD, CAST], k=rng.randint(1, 5))]
+        for step in rng.sample(chain, len(chain)):
+            last = len(plan.records) - 1
+            source = last if rng.random() < 0.9 else rng.randint(0, last)
+            if step == CAST:
+                plan.add(node(CAST, {1: source, 4: rng.choice((2, 3))}))
+            elif step == LOAD:
+                plan.add(node(LOAD, {1: source, 6: rng.randint(1, 255)}))
+            else:
+                rows = random_row(rng, step, plan.records[source].extents)
+                plan.add(move(step, source, *rows))
+        if op in plan.table[::17]:
+            return plan
+
+
+def lookups(count, seed):
+    """Places of every movement and of chains, and nodes and elements not there."""
+    rng = Random(f'lookups {seed}')
+    huge = (2 ** 31, 2 ** 32, BIG - 1, BIG, 2 ** 64 - 1)
+    movements = (PERMUTE, FLIP, RESHAPE, EXPAND, PAD, SHRINK, LOAD)
+    over = large(*[(LARGE,)] * 4) + const(0, 1)
+    wide = large((LARGE,), (1,)) + move(FLIP, 0, (1,)) + move(RESHAPE, 2, (16, 65536))
+    wide += move(EXPAND, 1, (1024,))
+    for table, at, element in ((over, 4, 0), (over, 9, 0), (wide, 2, 0), (wide, 3, LARGE - 1),
+                               (wide, 3, 70000), (wide, 3, LARGE), (wide, 4, 1023)):
+        yield Case('lookup', (table, at, element), 'wide')
+    for turn in range(count):
+        plan = movement_plan(rng, movements[turn % 7])
+        last = len(plan.records) - 1
+        node_number = last if turn % 3 else rng.randint(0, last)
+        elements = prod(plan.records[node_number].extents)
+        element, table, note = rng.randrange(elements), plan.table, 'lookup'
+        if turn % 9 == 4:
+            element = rng.choice((elements, elements + 1, *huge))
+        if turn % 9 == 8:
+            node_number = rng.choice((last + 1, last + 2, 256, *huge))
+        if turn % 11 == 10:
+            table, note = table + rng.choice((node(21), const(0, 2), [0])), 'refused plan'
+        yield Case('lookup', (table, node_number, element), note)
+
+
+def listings(count, seed):
+    rng = Random(f'listings {seed}')
+    full = const(2, -300) * 256
+    fixed = [b'', b'\x01\x00\x04\x0a', b'\x00', pack(full), pack(full) + bytes(12288),
+             pack(large((3, 2, 1, 4)) + apply(MUL, 0, 0)), pack(const(3, I32_LOW)),
+             pack(large(*[(LARGE,)] * 4) + const(0, 1)), pack(param(0, 2, -9, -3, (1, 2, 3, 4)))]
+    strings = byte_strings(rng)
+    for _ in range(60):
+        next(strings)
+    for turn in range(count):
+        if turn < len(fixed):
+            data = fixed[turn]
+        elif turn % 2:
+            data = pack(make_plan(rng, rng.randrange(21), 4).table)
+        else:
+            data = next(strings)[1]
+        yield Case('listing', (data,), 'listing')
+
+
+GROUPS = {
+    'valid plans': (valid_plans, 210), 'near misses': (near_misses, 150),
+    'rule pairs': (rule_pairs, 150), 'edge words': (edge_words, 120),
+    'intervals': (interval_cases, 96), 'limits': (limit_cases, 110),
+    'buffers': (buffer_cases, 65), 'run inputs': (run_inputs, 100),
+    'packed bytes': (packed_bytes, 190), 'packed plans': (packed_plans, 20),
+    'lookups': (lookups, 108), 'listings': (listings, 30),
+}
+
+
+def group(name, count, seed):
+    return GROUPS[name][0](count, seed)
+
+
+def all_cases(seed, scale=1):
+    for make, count in GROUPS.values():
+        yield from make(int(count * scale), seed)

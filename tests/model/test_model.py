@@ -1,0 +1,343 @@
+"""Self check of model.py and cases.py: python3 tests/model/test_model.py"""
+
+import sys
+import unittest
+from math import prod
+
+sys.dont_write_bytecode = True
+
+import cases
+import model
+from cases import apply, const, move, node, pack, param, reduce_node
+from model import (ADD, AND, CAST, CMPLT, CMPNE, EXPAND, FLIP, IDIV, LOAD, MAX, MOD, MUL, OR,
+                   PAD, PERMUTE, RESHAPE, SHRINK, WHERE, Answer, Found)
+
+GAP = None
+I32_LOW = -2147483648
+LARGE = 1048576
+TALLY = {'passed': 0, 'failed': 0}
+
+
+class Compared(unittest.TestCase):
+    def same(self, got, want, note=''):
+        TALLY['passed' if got == want else 'failed'] += 1
+        with self.subTest(note):
+            self.assertEqual(got, want)
+
+    def refused(self, table, number, place, note=''):
+        derived = cases.fresh_words(8 * 256)
+        self.same(model.check(table, derived), Answer(number, place, 0), note)
+        self.same(derived, cases.fresh_words(8 * 256), note)
+
+    def bounds(self, table, low, high, note=''):
+        derived = [0] * 8 * 256
+        self.same(model.check(table, derived), Answer(0, 0, 0), note)
+        last = 8 * (len(table) // 17 - 1)
+        self.same(derived[last + 2:last + 4], [low, high], note)
+
+    def values(self, table, inputs, want, note=''):
+        """The output's elements of a run, GAP for a gap."""
+        values = [999999 if v is GAP else v for v in inputs]
+        flags = [int(v is not GAP) for v in inputs]
+        out, known = [5] * 200, [5] * 200
+        answer = model.run(table, values, flags, out, known)
+        self.same(answer, Answer(0, 0, want.count(GAP)), note)
+        end = known.index(5) if 5 in known else 200
+        first = end - len(want)
+        self.same([v if f else GAP for v, f in zip(out[first:end], known[first:end])], want, note)
+        self.same(all(v == 0 for v, f in zip(out[:end], known) if f == 0), True, note)
+        self.same(out[end:] + known[end:], [5] * (400 - 2 * end), note)
+
+
+def two(op, first, second, dtype=3):
+    """A binary of two PARAMs without axes, of the given bounds."""
+    return param(0, dtype, *first, ()) + param(1, dtype, *second, ()) + apply(op, 0, 1)
+
+
+class WorkedExamples(Compared):
+    """Every worked example of 01, the slips too."""
+
+    def test_bounds(self):
+        self.bounds(param(0, 2, -16384, 16383, ()) + apply(ADD, 0, 0), -32768, 32766)
+        self.refused(param(0, 2, -20000, 20000, ()) + apply(ADD, 0, 0), 11, 1)
+        self.refused(param(0, 1, 0, 255, ()) + const(1, 2) + apply(MUL, 0, 1), 11, 2)
+        self.bounds(param(0, 2, -4, 10, (3,)) + reduce_node(0, 0, (1,)), -12, 30)
+        self.bounds(param(0, 2, -7, 7, ()) + const(2, 2) + apply(IDIV, 0, 1), -4, 3)
+        self.refused(param(0, 3, I32_LOW, 0, ()) + const(3, -1) + apply(IDIV, 0, 1), 11, 2)
+        self.bounds(two(MOD, (-9, 9), (-3, -2)), -2, 0)
+        self.bounds(two(CMPLT, (4, 9), (0, 4)), 0, 0)
+
+    def test_values(self):
+        plan = param(0, 1, 0, 9, (2,)) + move(PAD, 0, (5,), (1,))
+        self.values(plan, [7, 9], [GAP, 7, 9, GAP, GAP])
+        self.values(plan + move(FLIP, 1, (1,)), [7, 9], [GAP, GAP, 9, 7, GAP])
+        turned = param(0, 1, 0, 9, (2, 3)) + move(PERMUTE, 0, (1, 0))
+        self.same(model.lookup(turned, 1, 3), Found(0, 0, 1, 0, 4))
+        where = (param(0, 0, 0, 1, ()) + param(1, 1, 0, 9, ()) + param(2, 1, 0, 9, ())
+                 + apply(WHERE, 0, 1, 2))
+        self.values(where, [1, 4, GAP], [4])
+        self.same(model.unpack(b'', []), Answer(20, 0, 0))
+        self.bounds(param(0, 1, 0, 9, (2,)) + move(PAD, 0, (3,), (1,)), 0, 9)
+        self.refused(param(0, 1, 0, 9, (2,)) + move(PAD, 0, (3,), (2,)), 8, 1)
+
+    def test_bytes(self):
+        data = bytes.fromhex('010004D804')
+        table = cases.fresh_words(18)
+        self.same(pack(const(2, 300)), data)
+        self.same(model.unpack(data, table), Answer(0, 0, 1))
+        self.same(table, const(2, 300) + [1017])
+        text = b'node op dtype device low high shape\n0 0 2 0 5 5 -\naccepted 1\n'
+        self.same(model.listing(bytes([1, 0, 4, 10])), text)
+        self.same(model.listing(b''), b'refused 20 at 0\n')
+        self.same(model.unpack_check(bytes([1, 0, 4, 10])), 1)
+        self.same(model.unpack_check(bytes([1, 0, 8, 10])), 65536 * 5)
+        self.same(max(1 + 5 * len(used) for used in model.USED_WORDS), 46)
+        for extreme in (2 ** 34 - 1, -2 ** 34):
+            longest = node(1, {w: extreme for w in model.USED_WORDS[1]}) * 256
+            table = [7] * 4352
+            self.same(len(pack(longest)), 11778)
+            self.same(model.unpack(pack(longest), table), Answer(0, 0, 256))
+            self.same(table, longest)
+        full = pack(const(2, 5) * 256)
+        self.same(model.listing(full + bytes(12288)), b'refused 22 at %d\n' % len(full))
+
+    def test_slips(self):
+        self.values(param(0, 1, 0, 9, (3,)) + reduce_node(0, 0, (1,)), [1, GAP, 3], [GAP])
+        self.values(param(0, 1, 1, 3, (2,)), [GAP, 2], [GAP, 2], 'limits under a gap')
+        self.bounds(two(MUL, (-3, 5), (-7, 2)), -35, 21)
+        self.values(two(MOD, (-7, 7), (2, 2)), [-7, 2], [1])
+        self.values(two(MOD, (-7, 7), (3, 3)), [-7, 3], [2])
+        self.values(two(MOD, (-7, 7), (-3, -2)), [7, -3], [-2])
+        self.values(two(IDIV, (-7, 7), (2, 2)), [-7, 2], [-4])
+        self.values(two(IDIV, (-7, 7), (-3, -2)), [7, -3], [-3])
+        out, known = [5, 5, 5], [5, 5, 5]
+        answer = model.run(param(0, 1, 1, 3, (2,)), [2, 4], [1, 1], out, known)
+        self.same((answer, out, known), (Answer(16, 1, 0), [5] * 3, [5] * 3))
+
+
+class ExamplesBeyond(Compared):
+    """The further examples: each, turned, is a wrong definition."""
+
+    def test_movements(self):
+        turned = param(0, 1, 0, 99, (2, 3, 4)) + move(PERMUTE, 0, (1, 2, 0))
+        self.same(model.lookup(turned, 1, 1), Found(0, 0, 1, 0, 12))
+        square = param(0, 1, 0, 9, (2, 3))
+        source = [1, 2, 3, 4, 5, 6]
+        self.values(square + move(PAD, 0, (3, 4), (1, 0)), source,
+                    [GAP] * 4 + [1, 2, 3, GAP, 4, 5, 6, GAP])
+        self.values(square + move(SHRINK, 0, (1, 2), (1, 1)), source, [5, 6])
+        self.values(square + move(FLIP, 0, (0, 1)), source, [3, 2, 1, 6, 5, 4])
+        self.values(square + move(FLIP, 0, (1, 0)), source, [4, 5, 6, 1, 2, 3])
+        self.values(square + move(RESHAPE, 0, (3, 1, 2)), source, source)
+        column = param(0, 1, 0, 9, (2, 1)) + move(EXPAND, 0, (2, 3))
+        self.values(column, [8, GAP], [8, 8, 8, GAP, GAP, GAP])
+        padded = square + move(PAD, 0, (3, 4), (1, 0))
+        self.same(model.lookup(padded, 1, 3), Found(0, 0, 2, 0, 0))
+        self.same(model.lookup(padded, 1, 10), Found(0, 0, 1, 0, 5))
+        cast = square + node(CAST, {1: 0, 4: 2}) + node(LOAD, {1: 1, 6: 4})
+        self.same(model.lookup(cast, 2, 5), Found(0, 0, 1, 1, 5))
+
+    def test_computed(self):
+        pair = param(0, 1, 0, 9, (2, 3)) + param(1, 1, 0, 90, (3,))
+        self.values(pair + apply(ADD, 0, 1), [1, 2, 3, 4, 5, 6, 10, 20, 30],
+                    [11, 22, 33, 14, 25, 36])
+        square = param(0, 1, 0, 9, (2, 3))
+        source = [1, 2, 3, 4, 5, 6]
+        for number, flags, want in ((0, (1, 0), [5, 7, 9]), (0, (1, 1), [21]), (0, (0, 0), source),
+                                    (1, (1, 0), [4, 5, 6]), (1, (0, 1), [3, 6])):
+            self.values(square + reduce_node(0, number, flags), source, want)
+        where = (param(0, 0, 0, 1, ()) + param(1, 1, 0, 9, (3,)) + param(2, 1, 0, 9, ())
+                 + apply(WHERE, 0, 1, 2))
+        self.values(where, [GAP, 1, 2, 3, 4], [GAP] * 3)
+        self.values(where, [1, 1, GAP, 3, GAP], [1, GAP, 3])
+        self.values(where, [0, GAP, GAP, GAP, 4], [4] * 3)
+        self.values(two(AND, (0, 1), (0, 1), 0), [0, GAP], [GAP])
+        self.values(two(OR, (0, 1), (0, 1), 0), [1, GAP], [GAP])
+        self.values(two(MUL, (0, 1), (0, 1)), [0, GAP], [GAP])
+        self.values(two(CMPNE, (0, 1), (0, 1), 0), [0, 1], [1])
+        self.values(two(MAX, (-9, 9), (-9, 9)), [-3, -4], [-3])
+
+    def test_bounds_as_printed(self):
+        self.bounds(two(MOD, (3, 3), (5, 5)), 0, 4)
+        self.bounds(two(CMPNE, (1, 2), (1, 2)), 0, 1)
+        self.bounds(two(CMPNE, (2, 2), (2, 2)), 0, 0)
+        self.bounds(two(CMPNE, (1, 2), (3, 4)), 1, 1)
+        self.bounds(two(CMPLT, (1, 2), (3, 4)), 1, 1)
+        self.bounds(two(CMPLT, (1, 3), (3, 4)), 0, 1)
+        table = const(0, 1) + const(2, 4) + const(2, -9) + apply(WHERE, 0, 1, 2)
+        self.bounds(table, -9, 4)
+
+    def test_order_within_a_node(self):
+        self.refused(param(0, 0, 0, 1, (2,)) + reduce_node(0, 5, (1,)), 6, 1)
+        self.refused(two(IDIV, (I32_LOW, 0), (-1, 0)), 10, 2)
+        one_axis = param(0, 1, 0, 9, (2,))
+        self.refused(one_axis + move(PAD, 0, (4, 4), (1,)), 8, 1)
+        self.refused(one_axis + move(PAD, 0, (4, 4), (1, 1)), 7, 1)
+        self.refused(node(CAST, {1: 0, 4: 9}), 4, 0)
+
+    def test_rules_of_nodes(self):
+        self.refused(param(0, 1, 0, 9, (), 256), 7, 0)
+        self.bounds(param(0, 1, 0, 9, (), 255), 0, 9)
+        self.refused(param(16, 1, 0, 9, ()), 7, 0)
+        sixteen = [w for slot in range(16) for w in param(slot, 1, 0, 9, ())]
+        self.bounds(sixteen, 0, 9)
+        self.refused(sixteen + param(16, 1, 0, 9, ()), 7, 16)
+        self.bounds(const(1, 1) + param(0, 1, 0, 9, ()), 0, 9, 'slots count PARAMs')
+        self.refused(const(1, 1) + param(1, 1, 0, 9, ()), 7, 1)
+        self.refused(param(0, 1, 0, 9, (3,)) + move(EXPAND, 0, (1,)), 8, 1)
+        self.refused(param(0, 1, 0, 9, (3,)) + move(EXPAND, 0, (3, 3)), 8, 1)
+        self.refused(param(0, 1, 0, 9, ()) + param(1, 1, 0, 9, (), 2) + apply(ADD, 0, 1), 9, 2)
+        self.refused(const(1, 1) + const(2, 1) + apply(ADD, 0, 1), 6, 2)
+        self.refused(const(1, 1) + const(1, 1) + apply(WHERE, 0, 1, 1), 6, 2)
+
+    def test_sizes(self):
+        self.bounds(param(0, 1, 0, 9, (1024, 1024)), 0, 9)
+        self.refused(param(0, 1, 0, 9, (17, 61681)), 8, 0, '1048577 elements')
+        self.refused(param(0, 1, 0, 9, (LARGE + 1,)), 7, 0)
+        self.refused(param(0, 1, 0, 9, (LARGE,) * 4), 8, 0)
+        full = param(0, 1, 0, 9, (LARGE,)) + move(FLIP, 0, (1,)) * 3
+        self.bounds(full, 0, 9)
+        self.refused(full + const(1, 1), 12, 0)
+        self.refused(full + const(1, 1) + node(99), 2, 5)
+        self.same(model.run(full + const(1, 1), [], [], [], []), Answer(12, 0, 0))
+        self.same(model.lookup(full + const(1, 1), 99, 0), Found(12, 0, 0, 0, 0))
+        self.same(model.unpack_check(pack(full + const(1, 1))), 12 * 65536)
+
+    def test_run_refusals(self):
+        plan = param(0, 1, 0, 9, (2,)) + move(FLIP, 0, (1,))
+        for values, flags, rooms, want in (
+                ([1], [1, 1], (0, 0), (13, 0)), ([1, 1], [1], (9, 9), (13, 0)),
+                ([1, 2, 3], [1, 1, 1], (9, 9), (13, 0)), ([1, 77], [1, 2], (3, 4), (14, 0)),
+                ([1, 77], [1, 2], (4, 3), (14, 0)), ([1, 77], [1, 2], (4, 4), (15, 1)),
+                ([77, 1], [1, 2], (4, 4), (16, 0)), ([1, 77], [2, 1], (4, 4), (15, 0)),
+                ([1, 10], [1, 1], (4, 4), (16, 1)), ([-1, 3], [1, 1], (4, 4), (16, 0)),
+                ([77, -77], [0, 0], (4, 4), (0, 0))):
+            out = cases.fresh_words(rooms[0]), cases.fresh_flags(rooms[1])
+            answer = model.run(plan, values, flags, *out)
+            self.same(answer[:2], want, (values, flags, rooms))
+
+    def test_other_refusals(self):
+        self.same(model.check(const(1, 1), cases.fresh_words(7)), Answer(14, 0, 0))
+        plan = param(0, 1, 0, 9, (2,))
+        for at, element, number in ((0, 1, 0), (0, 2, 17), (1, 0, 17), (2 ** 64 - 1, 0, 17)):
+            self.same(model.lookup(plan, at, element).number, number)
+        for length in (0, 16, 18, 17 * 257):
+            self.same(model.check((const(1, 1) * 257)[:length], []), Answer(1, 0, 0))
+
+    def test_unpack_refusals(self):
+        for text, room, want in (
+                ('', 0, (20, 0)), ('80808080', 0, (20, 0)), ('8080808080', 0, (21, 0)),
+                ('8000', 0, (21, 0)), ('00', 0, (23, 0)), ('8102', 9999, (23, 0)),
+                ('8002', 4351, (14, 0)), ('8002', 4352, (20, 2)), ('0115', 16, (14, 0)),
+                ('0115', 17, (24, 1)), ('01', 17, (20, 1)), ('0100', 17, (20, 2)),
+                ('010004', 17, (20, 3)), ('01000480', 17, (20, 3)), ('0100040A00', 17, (22, 4)),
+                ('0200040A00', 34, (20, 5)), ('0200040A8103', 34, (24, 4)),
+                ('0200040A9500', 34, (21, 4)), ('01008080808080', 17, (21, 2)),
+                ('010080808080', 17, (20, 2)), ('010004808000', 17, (21, 3)),
+                ('0100040A1580', 17, (22, 4)), ('008200', 0, (23, 0))):
+            table = cases.fresh_words(room)
+            self.same(model.unpack(bytes.fromhex(text), table), Answer(*want, 0), text)
+            self.same(table, cases.fresh_words(room), text)
+            if want[0] != 14:
+                answer = 65536 * want[0] + want[1]
+                self.same(model.unpack_check(bytes.fromhex(text)), answer, text)
+
+
+def outcome(case):
+    """The number, the count and the buffers of a case, whatever its call answers."""
+    answer, buffers = cases.expected(case)
+    if case.call == 'unpack_check':
+        return answer // 65536, 0, buffers
+    if case.call == 'listing':
+        words = answer.split()
+        return int(words[1]) if words[0] == b'refused' else 0, 0, buffers
+    return answer.number, answer[2], buffers
+
+
+class GeneratedCases(Compared):
+    @classmethod
+    def setUpClass(cls):
+        cls.every = list(cases.all_cases(1))
+        cls.outcomes = [(case, *outcome(case)) for case in cls.every]
+
+    def test_counts(self):
+        self.same(list(cases.all_cases(1)) == self.every, True, 'deterministic')
+        self.same(list(cases.all_cases(2)) == self.every, False, 'seeded')
+        self.same(1200 <= len(self.every) <= 1500, True, len(self.every))
+        for call, least in (('check', 550), ('run', 200), ('unpack', 150), ('lookup', 80),
+                            ('unpack_check', 40), ('listing', 20)):
+            self.same(sum(c.call == call for c in self.every) >= least, True, call)
+
+    def test_every_number_is_reached(self):
+        for call, numbers in (('check', (*range(13), 14)), ('run', (0, 2, 12, 13, 14, 15, 16)),
+                              ('lookup', (0, 12, 17)), ('unpack', (0, 14, *range(20, 25))),
+                              ('unpack_check', (0, 12, *range(20, 25))), ('listing', (0, 20))):
+            reached = {number for case, number, _, _ in self.outcomes if case.call == call}
+            self.same(set(numbers) - reached, set(), call)
+        lookups = [c for c in self.every if c.call == 'lookup']
+        self.same({model.lookup(*c.args).found for c in lookups}, {0, 1, 2})
+
+    def test_accepted_runs(self):
+        accepted = [case for case, number, _, _ in self.outcomes
+                    if case.call == 'run' and number == 0]
+        self.same({op for c in accepted for op in c.args[0][::17]}, set(range(21)))
+        totals = []
+        for case in accepted:
+            _, records = model.verdict(case.args[0])
+            totals.append(sum(prod(r.extents) for r in records))
+            self.same(len(records) <= 12 and totals[-1] <= 200, True, case.note)
+            self.run_agrees(case, records)
+        self.same(sum(t <= 40 for t in totals) > len(totals) / 2, True)
+        ranks = {len(r.extents) for c in accepted for r in model.verdict(c.args[0])[1]}
+        self.same(ranks, set(range(5)))
+
+    def run_agrees(self, case, records):
+        """Values lie in their bounds; a lookup tells the value of its place."""
+        table = case.args[0]
+        _, (values, flags) = cases.expected(case)
+        starts = [sum(prod(r.extents) for r in records[:k]) for k in range(len(records))]
+        for k, record in enumerate(records):
+            for element in range(prod(record.extents)):
+                at = starts[k] + element
+                inside = record.low <= values[at] <= record.high
+                found = model.lookup(table, k, element)
+                origin = starts[found.node] + found.element
+                want = (0, 0) if found.found == 2 else (values[origin], flags[origin])
+                good = (values[at], flags[at]) == want and (inside or flags[at] == 0)
+                self.same(good, True, (case.note, k, element))
+
+    def test_refusals_write_nothing(self):
+        for case, number, third, buffers in self.outcomes:
+            if number:
+                fresh = [cases.fresh_words(len(b)) for b in buffers]
+                if case.call == 'run':
+                    fresh[1] = cases.fresh_flags(len(buffers[1]))
+                self.same((third, list(buffers)), (0, fresh), case.note)
+
+    def test_rule_pairs(self):
+        for op, (base, _) in cases.DRAFTS.items():
+            self.same(model.verdict(cases.draft(op, base))[0], 0, op)
+            for rule, change in cases.breaks_of(op):
+                number, _ = model.verdict(cases.draft(op, base, change))
+                self.same(number, rule, (op, change))
+            for first, second, table in cases.broken_pairs(op):
+                place = len(table) // 17 - 1
+                self.same(model.verdict(table), (first, place), (op, first, second))
+        pairs = {(r, s) for r in range(2, 12) for s in range(r + 1, 12)}
+        reached = {(r, s) for op in cases.DRAFTS for r, s, _ in cases.broken_pairs(op)}
+        self.same(pairs - reached, {(5, 6), (5, 9), (5, 10), (7, 9), (7, 10)})
+
+    def test_packed_forms(self):
+        for case in self.every:
+            if case.call == 'run' and case.note.startswith('valid'):
+                table = case.args[0]
+                room = [0] * len(table)
+                self.same(model.unpack(pack(table), room), Answer(0, 0, len(table) // 17))
+                self.same(room, table, case.note)
+
+
+if __name__ == '__main__':
+    ran = unittest.main(exit=False, verbosity=0).result
+    failed = TALLY['failed'] + len(ran.errors)
+    print(f"{TALLY['passed']} passed, {failed} failed", flush=True)
+    sys.exit(0 if ran.wasSuccessful() and failed == 0 else 1)
