@@ -1,2 +1,4 @@
 pub mod Everything
 pub mod Examples
+pub mod Acceptance
+pub mod Elements

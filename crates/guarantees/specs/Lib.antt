@@ -1,3 +1,6 @@
 pub mod Questions
 pub mod Examples
 pub mod Further
+pub mod Acceptance
+pub mod Elements
+pub mod Lookups

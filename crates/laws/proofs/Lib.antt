@@ -10,3 +10,4 @@ pub mod Machine
 pub mod Sums
 pub mod Numbering
 pub mod Store
+pub mod Induction

@@ -7,7 +7,7 @@ use borrow.Author.Tests.{eqb-true}
 use lib.Dec.{eqb}
 use Rattle.laws.specs.Lists.{allBelow, among}
 use Rattle.laws.proofs.Booleans.{or-true, cond-both, all-below}
-use Rattle.plan.specs.Operations.{Entry, _⇒_, byOperation, operationsOf, coversAll, operationCount}
+use Rattle.plan.specs.Operations.{Entry, _⇒_, byOperation, operationsOf, coversAll, operationCount, uses, followed, IDIV, MOD}
 
 -- P holds of each row's value where the row is the operation's
 abbrev pub EachRow : {A : Type 0} → (A → Type 0) → ℕ → List (Entry A) → Type 0
@@ -64,3 +64,12 @@ for-group P op (k ∷ ks) each m =
 pub only : (op k : ℕ) → among op (k ∷ []) ≡ true → op ≡ k
 unfolding among
 only op k m = or-true (eqb op k) false m (eqb-true op k) (λ q. absurd (false≢true q))
+
+-- the words that a group uses
+pub followed-uses : (op : ℕ) → among op followed ≡ true → uses op 1 ≡ true
+unfolding among uses
+followed-uses op = for-group (λ (k : ℕ). uses k 1 ≡ true) op followed (refl then refl then refl then refl then refl then refl then refl then tt)
+
+pub divides-uses : (op : ℕ) → among op (IDIV ∷ MOD ∷ []) ≡ true → uses op 2 ≡ true
+unfolding among uses
+divides-uses op = for-group (λ (k : ℕ). uses k 2 ≡ true) op (IDIV ∷ MOD ∷ []) (refl then refl then tt)

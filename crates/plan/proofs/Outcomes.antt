@@ -91,6 +91,24 @@ module _ {A : Type 0} (step : ℕ → A → Outcome A) (start : A) where
       by (accepted a) q e before = (m, a, omega arith, q, e)
       by (refused s) q e before = let w = before (q ∙ e) in (w .0, w .1, omega (arith, w .2), w .3, w .4)
 
+  -- steps that each leave what they found
+  pub turn-all : (m : ℕ) → ((n : ℕ) → n < m → step n start ≡ accepted start) → inTurn step start m ≡ accepted start
+  unfolding inTurn
+  turn-all zero h = refl
+  turn-all (suc m) h = rw (turn-all m (λ n q. h n (omega arith))) (h m (omega arith))
+
+-- steps that agree
+pub turn-same : {A : Type 0} (step other : ℕ → A → Outcome A) (start : A) (m : ℕ) → ((n : ℕ) (a : A) → n < m → step n a ≡ other n a)
+    → inTurn step start m ≡ inTurn other start m
+unfolding inTurn
+turn-same step other start zero h = refl
+turn-same {A} step other start (suc m) h =
+    by (inTurn other start m) (turn-same step other start m (λ n a q. h n a (omega arith)))
+  where
+    by : (o : Outcome A) → inTurn step start m ≡ o → andThen (inTurn step start m) (step m) ≡ andThen o (other m)
+    by (accepted a) e = rw e (h m a (omega arith))
+    by (refused r) e = rw e refl
+
 -- ---- rules in order
 
 module _ {A : Type 0} where

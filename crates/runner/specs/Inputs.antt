@@ -27,10 +27,12 @@ inputTotal t ds = inputStart t ds (length ds)
 abbrev pub declared : List ℤ → ℕ → Interval
 declared t n = between (nodeAt t n .low) (nodeAt t n .high)
 
--- the limits at each position of the input
+-- the limits at each position of the input: those of node n, and of all nodes
+abbrev pub nodeLimits : List ℤ → List Derived → ℕ → List Interval
+nodeLimits t ds n = cond (eqb (nodeAt t n .op) PARAM) (replicate (countOf (getD ds n noSource)) (declared t n)) []
+
 unfoldable pub inputLimits : List ℤ → List Derived → List Interval
-inputLimits t ds =
-    concat (tab (length ds) (λ (n : ℕ). cond (eqb (nodeAt t n .op) PARAM) (replicate (countOf (getD ds n noSource)) (declared t n)) []))
+inputLimits t ds = concat (tab (length ds) (λ (n : ℕ). nodeLimits t ds n))
 
 -- "A known number is an input value whose flag is 1; the other values lie under gaps."
 unfoldable pub inputCell : ℤ → ℕ → Cell
@@ -45,6 +47,8 @@ testInput limits value flag p =
     need (leb flag 1) 15 p (need (not (eqb flag 1) || holds limits value) 16 p (accepted tt))
 
 -- "15 and 16 at the first bad position"
+abbrev pub testAt : List Interval → List ℤ → List ℕ → ℕ → Outcome Unit
+testAt limits values flags p = testInput (getD limits p (between (pos 0) (pos 0))) (getD values p (pos 0)) (getD flags p 0) p
+
 unfoldable pub testInputs : List Interval → List ℤ → List ℕ → Outcome Unit
-testInputs limits values flags =
-    inTurn (λ (p : ℕ) (before : Unit). testInput (getD limits p (between (pos 0) (pos 0))) (getD values p (pos 0)) (getD flags p 0) p) tt (length limits)
+testInputs limits values flags = inTurn (λ (p : ℕ) (passed : Unit). testAt limits values flags p) tt (length limits)

@@ -22,7 +22,7 @@ use Rattle.plan.specs.Words.{listOf, element}
 use Rattle.plan.proofs.ByOperation.{_then_, for-group}
 use Rattle.shapes.specs.Rows.{extentsOf, rowOf, isPermutation}
 use Rattle.shapes.specs.Rules.{extent, wordOf, flagged, sameRank, permuted, reduced, gatheredExtents, shapesAgree, resultExtents}
-use Rattle.shapes.specs.Sources.{permuteSource, flipSource, expandSource, inSource, padSource, shrinkSource, sourceElement, reduceSource, gathered}
+use Rattle.shapes.specs.Sources.{permuteSource, flipSource, expandSource, inSource, padSource, shrinkSource, sourceElement, Below, reduceSource, gathered}
 use Rattle.shapes.proofs.Extents.{Positive, some-element, gathered-positive, reduced-length, gathered-length}
 use Rattle.shapes.proofs.Broadcast.{Spreads, spread-below, expand-spread}
 
@@ -116,16 +116,8 @@ expand-spreads s r f =
 
 -- ---- all that are followed back
 
--- where there is a source element, it is one of n
-abbrev pub Below : ℕ → Option ElementNumber → Type 0
-Below n none = Unit
-Below n (some e) = e .0 < n
-
 module _ (x : Node) (s t u r : List ℕ) (e : ElementNumber) (agree : shapesAgree x s t u ≡ true) (shape : r ≡ resultExtents x s t u)
     (row : x .op ≡ PERMUTE → isPermutation (length s) (listOf (x .rowa)) ≡ true) (h : e .0 < count r) where
-  abbrev Goal : Type 0
-  Goal = Below (count s) (sourceElement x s r e)
-
   of-permute : x .op ≡ PERMUTE → Below (count s) (sourceElement x s r e)
   unfolding sourceElement resultExtents among
   of-permute q =

@@ -1,5 +1,5 @@
 -- Which element of its source an element of a node is. s is the source's extents, r the node's.
-use Prim.Native.Nat.{ℕ, zero, suc, _+_, _*_, _-_}
+use Prim.Native.Nat.{ℕ, zero, suc, _+_, _*_, _-_, _<_}
 use mathlib.Core.Bool.{Bool, true, false, _&&_, cond}
 use mathlib.Core.Option.{Option, none, some}
 use mathlib.Core.List.{List, [], _∷_}
@@ -50,6 +50,11 @@ sourceRules x s r e =
 
 unfoldable pub sourceElement : Node → List ℕ → List ℕ → ElementNumber → Option ElementNumber
 sourceElement x s r e = byOperation (x .op) (sourceRules x s r e) none
+
+-- where there is a source element, it is one of n
+abbrev pub Below : ℕ → Option ElementNumber → Type 0
+Below n none = Unit
+Below n (some e) = e .0 < n
 
 -- "Binary and WHERE: right-aligned; each axis equal or 1": axis k of an operand is axis k + (rank of the result − its rank)
 unfoldable pub broadcastSource : List ℕ → List ℕ → ElementNumber → ElementNumber

@@ -1,3 +1,4 @@
 pub mod Tables
 pub mod Accepted
--- Nodes
+pub mod Nodes
+pub mod Facts

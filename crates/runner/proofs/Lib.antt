@@ -1,0 +1,5 @@
+pub mod Fields
+pub mod Inputs
+pub mod Sound
+pub mod Gaps
+pub mod Completes

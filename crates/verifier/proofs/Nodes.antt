@@ -1,0 +1,120 @@
+-- What acceptance says of each node, at every prefix of a plan.
+use Prim.Native.Nat.{ℕ, zero, suc, _<_, _≤_}
+use mathlib.Core.Path.{_≡_, refl, ap, sym, _∙_, subst}
+use mathlib.Core.Bool.{Bool, true, false, _&&_, _||_, not, cond, false≢true}
+use mathlib.Core.List.{List, [], _∷_}
+use native.Mathlib.Omega.{arith}
+use borrow.Author.Tests.{ltb-true, ltb-false, leb-true}
+use lib.IntN.{ℤ}
+use lib.Dec.{ltb, leb}
+use lib.ListN.{length, getD, take, length-take, List·getD-eq-default}
+use lib.Seq.{getD-take}
+use Rattle.laws.specs.Lists.{among}
+use Rattle.laws.specs.Numbering.{count}
+use Rattle.laws.proofs.Booleans.{bool-cases, cond-both, and-true}
+use Rattle.laws.proofs.Induction.{each-below}
+use Rattle.plan.specs.declared.Node.{Node}
+use Rattle.plan.specs.declared.NodeNumber.{NodeNumber}
+use Rattle.plan.specs.Operations.{PERMUTE, operationCount, uses, byOperation}
+use Rattle.plan.specs.Types.{contains, rangeOf}
+use Rattle.plan.specs.Words.{nodeAt, listOf}
+use Rattle.shapes.specs.Rows.{isPermutation}
+use Rattle.shapes.specs.Rules.{elementLimit, shapesAgree, resultExtents}
+use Rattle.shapes.proofs.Extents.{Extents, no-extents, result-extents, some-element}
+use Rattle.bounds.specs.Rules.{resultBounds}
+use Rattle.verifier.specs.Rules.{Derived, noSource, sourceOf, implies, sourcesEarlier, rowsRight, shapeRight, boundsInType, derivedOf}
+use Rattle.verifier.specs.Check.{first, second, third, countOf}
+use Rattle.verifier.specs.Meets.{NodeMeets, MeetsAt, NodesMeet}
+
+implied : (p q : Bool) → implies p q ≡ true → p ≡ true → q ≡ true
+implied true q e h = e
+implied false q e h = absurd (false≢true h)
+
+-- rule 7 of a PERMUTE
+permute-rule : (x : Node) (params rank : ℕ) → rowsRight x params rank ≡ true → x .op ≡ PERMUTE → isPermutation rank (listOf (x .rowa)) ≡ true
+unfolding rowsRight among
+permute-rule x params rank e q = rw q at e
+
+-- ---- one node, from its rules
+
+module _ (t : List ℤ) (i : ℕ) (earlier : List Derived) (d : Derived) (m : NodeMeets t i earlier d) where
+  pub op-known : nodeAt t i .op < operationCount
+  op-known = ltb-true _ _ (m .rule2)
+
+  -- "the source always being an earlier node"
+  pub source1-before : uses (nodeAt t i .op) 1 ≡ true → nodeAt t i .source1 .0 < i
+  unfolding sourcesEarlier
+  source1-before u = ltb-true _ _ (implied (uses (nodeAt t i .op) 1) _ (and-true _ _ (m .rule4) .0) u)
+
+  others : (implies (uses (nodeAt t i .op) 2) (ltb (nodeAt t i .source2 .0) i) && implies (uses (nodeAt t i .op) 3) (ltb (nodeAt t i .source3 .0) i)) ≡ true
+  unfolding sourcesEarlier
+  others = and-true (implies (uses (nodeAt t i .op) 1) (ltb (nodeAt t i .source1 .0) i)) _ (m .rule4) .1
+
+  pub source2-before : uses (nodeAt t i .op) 2 ≡ true → nodeAt t i .source2 .0 < i
+  source2-before u = ltb-true _ _ (implied (uses (nodeAt t i .op) 2) _ (and-true _ _ others .0) u)
+
+  pub source3-before : uses (nodeAt t i .op) 3 ≡ true → nodeAt t i .source3 .0 < i
+  source3-before u = ltb-true _ _ (implied (uses (nodeAt t i .op) 3) _ (and-true (implies (uses (nodeAt t i .op) 2) (ltb (nodeAt t i .source2 .0) i)) _ others .1) u)
+
+  pub permutation-row : nodeAt t i .op ≡ PERMUTE → isPermutation (length (first (nodeAt t i) earlier .extents)) (listOf (nodeAt t i .rowa)) ≡ true
+  permutation-row q = permute-rule (nodeAt t i) _ _ (m .rule7) q
+
+  pub shapes-agree : shapesAgree (nodeAt t i) (first (nodeAt t i) earlier .extents) (second (nodeAt t i) earlier .extents) (third (nodeAt t i) earlier .extents) ≡ true
+  unfolding shapeRight
+  shapes-agree = and-true _ _ (m .rule8) .0
+
+  pub extents-derived : d .extents ≡ resultExtents (nodeAt t i) (first (nodeAt t i) earlier .extents) (second (nodeAt t i) earlier .extents) (third (nodeAt t i) earlier .extents)
+  unfolding derivedOf
+  extents-derived = ap (λ (d : Derived). d .extents) (m .derived)
+
+  pub bounds-derived : d .bounds
+      ≡ resultBounds (nodeAt t i) (first (nodeAt t i) earlier .extents) (first (nodeAt t i) earlier .bounds) (second (nodeAt t i) earlier .bounds) (third (nodeAt t i) earlier .bounds)
+  unfolding derivedOf
+  bounds-derived = ap (λ (d : Derived). d .bounds) (m .derived)
+
+  pub in-type : contains (rangeOf (d .dtype)) (d .bounds) ≡ true
+  unfolding boundsInType
+  in-type = m .rule11
+
+  pub few-elements : countOf d ≤ elementLimit
+  unfolding shapeRight
+  few-elements = rw extents-derived (leb-true _ _ (and-true (shapesAgree (nodeAt t i) (first (nodeAt t i) earlier .extents) (second (nodeAt t i) earlier .extents) (third (nodeAt t i) earlier .extents)) _ (m .rule8) .1))
+
+-- ---- the sources of a node
+
+-- what holds of the records before node i, and of none, holds of its sources
+pub source-has : (P : Derived → Type 0) (ds : List Derived) (i : ℕ) → P noSource → ((j : ℕ) → j < i → P (getD ds j noSource))
+    → (op k : ℕ) (s : NodeNumber) → P (sourceOf (take i ds) op k s)
+unfolding sourceOf
+source-has P ds i none before op k s =
+    cond-both P (uses op k) (getD (take i ds) (s .0) noSource) noSource (λ u. here) (λ u. none)
+  where
+    here : P (getD (take i ds) (s .0) noSource)
+    here =
+        bool-cases (ltb (s .0) i)
+        (λ l. let h : s .0 < i = ltb-true _ _ l in rw (getD-take i ds (s .0) noSource h) (before (s .0) h))
+        (λ l.
+        let h : i ≤ s .0 = ltb-false _ _ l in
+        let past : length (take i ds) ≤ s .0 = rw length-take (omega arith) in
+        rw (List·getD-eq-default (take i ds) noSource past) none)
+
+-- a source that is used is its record
+pub source-is : (ds : List Derived) (i op k : ℕ) (s : NodeNumber) → uses op k ≡ true → s .0 < i → sourceOf (take i ds) op k s ≡ getD ds (s .0) noSource
+unfolding sourceOf
+source-is ds i op k s u h = rw (u, getD-take i ds (s .0) noSource h) refl
+
+-- ---- all nodes
+
+module _ (t : List ℤ) (n : ℕ) (ds : List Derived) (m : NodesMeet t n ds) where
+  -- "1..1048576" and "Rank is 0 to 4", of every node
+  pub extents-at : (i : ℕ) → i < n → Extents (getD ds i noSource .extents)
+  extents-at =
+      each-below (λ (i : ℕ). Extents (getD ds i noSource .extents)) n
+      (λ i h before.
+      let x = nodeAt t i in
+      let has = source-has (λ (d : Derived). Extents (d .extents)) ds i no-extents before (nodeAt t i .op) in
+      rw (extents-derived t i (take i ds) (getD ds i noSource) (m .each i h))
+      (result-extents (nodeAt t i) _ _ _ (has 1 (nodeAt t i .source1)) (has 2 (nodeAt t i .source2)) (has 3 (nodeAt t i .source3))))
+
+  pub some-elements : (i : ℕ) → i < n → 0 < countOf (getD ds i noSource)
+  some-elements i h = some-element (getD ds i noSource .extents) (extents-at i h .positive)
