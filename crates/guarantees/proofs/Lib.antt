@@ -2,3 +2,4 @@ pub mod Everything
 pub mod Examples
 pub mod Acceptance
 pub mod Elements
+pub mod Lookups

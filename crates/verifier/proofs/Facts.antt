@@ -7,11 +7,11 @@ use lib.IntN.{ℤ, pos, negsuc}
 use lib.ListN.{length, replicate}
 use Rattle.laws.specs.Lists.{lastOr, concat}
 use Rattle.plan.specs.declared.Answer.{Answer}
-use Rattle.plan.specs.Operations.{CONST, PARAM, PAD, CAST, ADD, IDIV, CMPLT, WHERE, REDUCE, LOAD}
+use Rattle.plan.specs.Operations.{CONST, PARAM, PAD, CAST, ADD, IDIV, CMPLT, CMPNE, AND, WHERE, REDUCE, LOAD}
 use Rattle.plan.specs.Types.{between}
 use Rattle.plan.specs.Words.{nodeOf}
 use Rattle.plan.specs.Answers.{Outcome, accepted, refused}
-use Rattle.verifier.specs.Rules.{Derived, noSource, sourcesEarlier, paramRight}
+use Rattle.verifier.specs.Rules.{Derived, noSource, sourcesEarlier, typesAgree, paramRight, devicesAgree}
 use Rattle.verifier.specs.Check.{lengthRight, verdict, check, checkAnswer, derivedAfter, unpackCheck, codeOf}
 use Rattle.verifier.specs.Listing.{listing}
 
@@ -107,9 +107,13 @@ facts =
     ∷ plan (constant 2 (pos 5) ∷ (pos LOAD ∷ negsuc 0 ∷ padded 15 (pos 0 ∷ pos 0 ∷ pos 0 ∷ pos 0 ∷ pos 1 ∷ [])) ∷ []) is refusal 4 1
     -- "5: word 4 used and not 0..3"
     ∷ plan (constant 4 (pos 0) ∷ []) is refusal 5 0
-    -- "6: type rule broken (operands differ, bool misplaced, WHERE condition not bool)"; before 7
-    ∷ plan (constant 2 (pos 5) ∷ constant 3 (pos 5) ∷ on ADD (0 ∷ 1 ∷ []) ∷ []) is refusal 6 2
-    ∷ plan (constant 2 (pos 5) ∷ on WHERE (0 ∷ 0 ∷ 0 ∷ []) ∷ []) is refusal 6 1
+    -- "6: type rule broken (operands differ, bool misplaced, WHERE condition not bool)": all sources bool, all i16, two that differ
+    ∷ tests (map (λ (op : ℕ). typesAgree op 0 0 0) (ADD ∷ CMPLT ∷ CMPNE ∷ AND ∷ WHERE ∷ REDUCE ∷ []))
+    is tests (false ∷ false ∷ true ∷ true ∷ true ∷ false ∷ [])
+    ∷ tests (map (λ (op : ℕ). typesAgree op 2 2 2) (ADD ∷ CMPLT ∷ CMPNE ∷ AND ∷ WHERE ∷ REDUCE ∷ []))
+    is tests (true ∷ true ∷ true ∷ false ∷ false ∷ true ∷ [])
+    ∷ tests (typesAgree ADD 2 3 0 ∷ typesAgree CMPNE 2 3 0 ∷ typesAgree WHERE 0 2 3 ∷ []) is tests (false ∷ false ∷ false ∷ [])
+    -- 6 before 7
     ∷ plan (constant 0 (pos 1) ∷ reduce 0 2 [] ∷ []) is refusal 6 1
     -- "7: row or number wrong": REDUCE's number; "a device used is 1..255"; "slot (word 5) k ≤ 15 and low ≤ high"
     ∷ plan (constant 2 (pos 5) ∷ reduce 0 2 [] ∷ []) is refusal 7 1
@@ -123,7 +127,10 @@ facts =
     ∷ plan (big (1024 ∷ 1025 ∷ []) ∷ []) is refusal 8 0
     -- "9: two devices"; "Others take the one non-zero device of their sources"
     ∷ plan (small ∷ load 0 4 ∷ on ADD (0 ∷ 1 ∷ []) ∷ []) is refusal 9 2
+    ∷ tests (devicesAgree 3 0 3 ∷ devicesAgree 3 4 0 ∷ devicesAgree 0 3 4 ∷ []) is tests (true ∷ false ∷ false ∷ [])
     ∷ plan (constant 2 (pos 5) ∷ param 2 0 3 (pos 0) (pos 9) (2 ∷ []) ∷ on CMPLT (0 ∷ 1 ∷ []) ∷ []) is derived 0 3 (pos 0) (pos 1) (2 ∷ [])
+    -- "18 WHERE; second source"
+    ∷ plan (constant 0 (pos 1) ∷ constant 2 (pos 5) ∷ on WHERE (0 ∷ 1 ∷ 1 ∷ []) ∷ []) is derived 2 0 (pos 5) (pos 5) []
     -- "10: divisor bounds contain 0"; before "11: bounds leave the type", for [−2147483648,−2147483648] by [−1,0]
     ∷ plan (constant 3 (negsuc 2147483647) ∷ param 3 0 1 (negsuc 0) (pos 0) [] ∷ on IDIV (0 ∷ 1 ∷ []) ∷ []) is refusal 10 2
     ∷ plan (constant 3 (negsuc 2147483647) ∷ constant 3 (negsuc 0) ∷ on IDIV (0 ∷ 1 ∷ []) ∷ []) is refusal 11 2
