@@ -1,3 +1,4 @@
 pub mod Tables
 pub mod Nodes
 pub mod Sound
+pub mod Facts

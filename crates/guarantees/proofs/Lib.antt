@@ -3,3 +3,4 @@ pub mod Examples
 pub mod Acceptance
 pub mod Elements
 pub mod Lookups
+pub mod Refusals

@@ -4,3 +4,4 @@ pub mod Further
 pub mod Acceptance
 pub mod Elements
 pub mod Lookups
+pub mod Refusals

@@ -7,15 +7,17 @@ use mathlib.Core.Option.{Option, none, some}
 use mathlib.Core.List.{List, [], _∷_, map}
 use native.Mathlib.Omega.{arith}
 use native.Mathlib.Nat.{zero-add}
-use borrow.Author.Tests.{eqb-true, ltb-true, leb-true}
+use borrow.Author.Tests.{eqb-true, ltb-true, leb-true, lt-ltb}
 use lib.Dec.{eqb, ltb, leb}
 use lib.ListN.{length, getD, take, length-map}
+use lib.Seq.{getD-take, length-take-le}
 use Rattle.laws.specs.Lists.{tab, allBelow, among, occurrences, position}
 use Rattle.laws.specs.Numbering.{count, ravel, coord}
 use Rattle.laws.proofs.Booleans.{bool-cases, cond-both, and-true, or-true, all-below}
 use Rattle.laws.proofs.Lists.{getD-tab, length-tab, getD-map, position-lt, position-at, position-of}
 use Rattle.laws.proofs.Numbering.{ravel-lt, coord-lt, coord-ravel}
 use Rattle.plan.specs.declared.Node.{Node}
+use Rattle.plan.specs.declared.Row.{Row}
 use Rattle.plan.specs.declared.ElementNumber.{ElementNumber}
 use Rattle.plan.specs.Operations.{PERMUTE, FLIP, RESHAPE, EXPAND, PAD, SHRINK, LOAD, followed}
 use Rattle.plan.specs.Words.{listOf, element}
@@ -60,13 +62,24 @@ module _ (s row : List ℕ) (p : isPermutation (length s) row ≡ true) where
     unfolding permuteSource
     permute-below = ravel-lt s (λ (m : ℕ). coord (permuted s row) e (position m axes)) inside
 
-    -- "result axis k is source axis A_k": coordinate A_k of the source is coordinate k of the result
-    pub permute-coordinate : (k : ℕ) → k < length (take (length s) row) → getD (take (length s) row) k 0 < length s
+    axis-coordinate : (k : ℕ) → k < length (take (length s) row) → getD (take (length s) row) k 0 < length s
         → coord s (permuteSource s (permuted s row) row e) (getD (take (length s) row) k 0) ≡ coord (permuted s row) e k
     unfolding permuteSource
-    permute-coordinate k q a =
+    axis-coordinate k q a =
         coord-ravel s (λ (m : ℕ). coord (permuted s row) e (position m axes)) inside (getD axes k 0) a
         ∙ ap (λ (j : ℕ). coord (permuted s row) e j) (position-of axes k 0 (once (getD axes k 0) a) q)
+
+-- "result axis k is source axis A_k": coordinate A_k of the source element is coordinate k of the result's
+pub permute-coordinate : (s : List ℕ) (row : Row) (e : ℕ) → length s ≤ 4 → isPermutation (length s) (listOf row) ≡ true → e < count (permuted s (listOf row))
+    → (k : ℕ) → k < length s → coord s (permuteSource s (permuted s (listOf row)) (listOf row) e) (wordOf (listOf row) k) ≡ coord (permuted s (listOf row)) e k
+unfolding isPermutation rowOf
+permute-coordinate s row e ranked p h k q =
+    let tests = and-true (allBelow 4 (λ (k : ℕ). cond (ltb k (length s)) (ltb (getD (listOf row) k 0) (length s)) (eqb (getD (listOf row) k 0) 0))) _ p .0 in
+    let test = all-below 4 (λ (k : ℕ). cond (ltb k (length s)) (ltb (getD (listOf row) k 0) (length s)) (eqb (getD (listOf row) k 0) 0)) tests k (omega arith) in
+    let axis : getD (listOf row) k 0 < length s = ltb-true _ _ (rw (lt-ltb k (length s) q) at test) in
+    let same : getD (take (length s) (listOf row)) k 0 ≡ getD (listOf row) k 0 = getD-take (length s) (listOf row) k 0 q in
+    let there : k < length (take (length s) (listOf row)) = rw (length-take-le (length s) (listOf row) ranked) q in
+    rw same at (axis-coordinate s (listOf row) p e h k there (rw same axis))
 
 -- ---- FLIP, PAD, SHRINK
 

@@ -13,7 +13,8 @@ use Rattle.plan.specs.Operations.{PERMUTE, FLIP, RESHAPE, EXPAND, PAD, SHRINK, 
 use Rattle.plan.specs.Words.{listOf, element}
 use Rattle.shapes.specs.Rules.{extent, wordOf, flagged, gatheredExtents, reduced}
 
--- "PERMUTE: result axis k is source axis A_k": along source axis m the coordinate is that of the result axis k with A_k = m
+-- "PERMUTE: result axis k is source axis A_k": along source axis m the coordinate is that of the result axis k with A_k = m.
+-- So coordinate A_k of the source element is coordinate k of the result's (`permute-coordinate` of proofs/Sources.antt).
 unfoldable pub permuteSource : List ℕ → List ℕ → List ℕ → ℕ → ℕ
 permuteSource s r row e = ravel s (λ (m : ℕ). coord r e (position m (take (length s) row)))
 

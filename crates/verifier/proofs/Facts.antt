@@ -11,7 +11,7 @@ use Rattle.plan.specs.Operations.{CONST, PARAM, PAD, CAST, ADD, IDIV, CMPLT, CM
 use Rattle.plan.specs.Types.{between}
 use Rattle.plan.specs.Words.{nodeOf}
 use Rattle.plan.specs.Answers.{Outcome, accepted, refused}
-use Rattle.verifier.specs.Rules.{Derived, noSource, sourcesEarlier, typesAgree, paramRight, devicesAgree}
+use Rattle.verifier.specs.Rules.{Derived, noSource, sourcesEarlier, typesAgree, deviceNamed, paramRight, devicesAgree}
 use Rattle.verifier.specs.Check.{lengthRight, verdict, check, checkAnswer, derivedAfter, unpackCheck, codeOf}
 use Rattle.verifier.specs.Listing.{listing}
 
@@ -33,6 +33,11 @@ asked (a is b) = a
 
 abbrev said : Fact → Value
 said (a is b) = b
+
+-- `unfolding checking` opens every definition that a check computes by, for the crates above too.
+unfoldable pub checking : ℕ
+unfolding Rattle.laws.specs.Integers.minZ Rattle.laws.specs.Integers.maxZ Rattle.laws.specs.Integers.min4 Rattle.laws.specs.Integers.max4 Rattle.laws.specs.Integers.floorDiv Rattle.laws.specs.Lists.tab Rattle.laws.specs.Lists.allBelow Rattle.laws.specs.Lists.among Rattle.laws.specs.Lists.occurrences Rattle.laws.specs.Lists.position Rattle.laws.specs.Lists.sum Rattle.laws.specs.Lists.concat Rattle.laws.specs.Lists.lastOr Rattle.laws.specs.Numbering.count Rattle.laws.specs.Numbering.ravel Rattle.laws.specs.Numbering.coord Rattle.plan.specs.Answers.inTurn Rattle.plan.specs.Answers.written Rattle.plan.specs.Operations.uses Rattle.plan.specs.Types.holds Rattle.plan.specs.Types.contains Rattle.plan.specs.Types.rangeOf Rattle.plan.specs.Words.sizeOf Rattle.plan.specs.Words.nodeOf Rattle.plan.specs.Words.wordsOf Rattle.plan.specs.Words.nodeAt Rattle.plan.specs.Words.nodeCount Rattle.plan.specs.Words.overParams Rattle.codec.specs.Numbers.groupsAt Rattle.codec.specs.Numbers.numberAt Rattle.codec.specs.Numbers.wordOf Rattle.codec.specs.Plans.readWord Rattle.codec.specs.Plans.readNode Rattle.codec.specs.Plans.addNode Rattle.codec.specs.Plans.unpack Rattle.shapes.specs.Rows.extentsOf Rattle.shapes.specs.Rows.rowOf Rattle.shapes.specs.Rows.isShapeRow Rattle.shapes.specs.Rows.isFlagRow Rattle.shapes.specs.Rows.isOffsetRow Rattle.shapes.specs.Rows.isPermutation Rattle.shapes.specs.Rules.sameRank Rattle.shapes.specs.Rules.aligned Rattle.shapes.specs.Rules.canBroadcast Rattle.shapes.specs.Rules.broadcast Rattle.shapes.specs.Rules.shapesAgree Rattle.shapes.specs.Rules.permuted Rattle.shapes.specs.Rules.reduced Rattle.shapes.specs.Rules.gatheredExtents Rattle.shapes.specs.Rules.resultExtents Rattle.bounds.specs.Rules.corners Rattle.bounds.specs.Rules.addBounds Rattle.bounds.specs.Rules.mulBounds Rattle.bounds.specs.Rules.maxBounds Rattle.bounds.specs.Rules.idivBounds Rattle.bounds.specs.Rules.modBounds Rattle.bounds.specs.Rules.minBounds Rattle.bounds.specs.Rules.whereBounds Rattle.bounds.specs.Rules.cmpltBounds Rattle.bounds.specs.Rules.disjoint Rattle.bounds.specs.Rules.allEndsEqual Rattle.bounds.specs.Rules.cmpneBounds Rattle.bounds.specs.Rules.gatheredCount Rattle.bounds.specs.Rules.reduceBounds Rattle.bounds.specs.Rules.resultBounds Rattle.verifier.specs.Check.deriveNode Rattle.verifier.specs.Check.nodeRules Rattle.verifier.specs.Check.checkNode Rattle.verifier.specs.Check.lengthRight Rattle.verifier.specs.Check.totalOf Rattle.verifier.specs.Check.verdict Rattle.verifier.specs.Check.derivedWords Rattle.verifier.specs.Check.check Rattle.verifier.specs.Check.unpackCheck Rattle.verifier.specs.Listing.digits Rattle.verifier.specs.Listing.decimal Rattle.verifier.specs.Listing.signed Rattle.verifier.specs.Listing.joined Rattle.verifier.specs.Listing.shapeText Rattle.verifier.specs.Listing.nodeLine Rattle.verifier.specs.Listing.listing Rattle.verifier.specs.Rules.sourceOf Rattle.verifier.specs.Rules.unusedZero Rattle.verifier.specs.Rules.sourcesEarlier Rattle.verifier.specs.Rules.typeNamed Rattle.verifier.specs.Rules.typesAgree Rattle.verifier.specs.Rules.deviceNamed Rattle.verifier.specs.Rules.paramRight Rattle.verifier.specs.Rules.rowsRight Rattle.verifier.specs.Rules.shapeRight Rattle.verifier.specs.Rules.oneDevice Rattle.verifier.specs.Rules.joinDevice Rattle.verifier.specs.Rules.devicesAgree Rattle.verifier.specs.Rules.resultDevice Rattle.verifier.specs.Rules.divisorRight Rattle.verifier.specs.Rules.resultType Rattle.verifier.specs.Rules.derivedOf Rattle.verifier.specs.Rules.boundsInType
+checking = 0
 
 -- ---- nodes written by hand
 
@@ -103,8 +108,8 @@ facts =
     -- "4: source negative or not earlier"; before 5
     ∷ tests (map (λ (sources : List ℕ). sourcesEarlier (nodeOf (on WHERE sources)) 1) ((0 ∷ 0 ∷ 0 ∷ []) ∷ (1 ∷ 0 ∷ 0 ∷ []) ∷ (0 ∷ 1 ∷ 0 ∷ []) ∷ (0 ∷ 0 ∷ 1 ∷ []) ∷ []))
     is tests (true ∷ false ∷ false ∷ false ∷ [])
+    ∷ tests (sourcesEarlier (nodeOf (pos LOAD ∷ negsuc 0 ∷ [])) 1 ∷ []) is tests (false ∷ [])
     ∷ plan (constant 2 (pos 5) ∷ cast 1 4 ∷ []) is refusal 4 1
-    ∷ plan (constant 2 (pos 5) ∷ (pos LOAD ∷ negsuc 0 ∷ padded 15 (pos 0 ∷ pos 0 ∷ pos 0 ∷ pos 0 ∷ pos 1 ∷ [])) ∷ []) is refusal 4 1
     -- "5: word 4 used and not 0..3"
     ∷ plan (constant 4 (pos 0) ∷ []) is refusal 5 0
     -- "6: type rule broken (operands differ, bool misplaced, WHERE condition not bool)": all sources bool, all i16, two that differ
@@ -117,12 +122,10 @@ facts =
     ∷ plan (constant 0 (pos 1) ∷ reduce 0 2 [] ∷ []) is refusal 6 1
     -- "7: row or number wrong": REDUCE's number; "a device used is 1..255"; "slot (word 5) k ≤ 15 and low ≤ high"
     ∷ plan (constant 2 (pos 5) ∷ reduce 0 2 [] ∷ []) is refusal 7 1
-    ∷ plan (constant 2 (pos 5) ∷ load 0 256 ∷ []) is refusal 7 1
-    ∷ plan (constant 2 (pos 5) ∷ load 0 255 ∷ []) is derived 2 255 (pos 5) (pos 5) []
+    ∷ tests (map (λ (device : ℕ). deviceNamed (nodeOf (load 0 device))) (0 ∷ 1 ∷ 255 ∷ 256 ∷ [])) is tests (false ∷ true ∷ true ∷ false ∷ [])
     ∷ tests (paramRight (nodeOf (param 2 15 1 (pos 4) (pos 4) [])) 15 ∷ paramRight (nodeOf (param 2 16 1 (pos 4) (pos 4) [])) 16 ∷ paramRight (nodeOf (param 2 0 1 (pos 4) (pos 3) [])) 0 ∷ [])
     is tests (true ∷ false ∷ false ∷ [])
-    -- "8: shapes disagree, or over 1048576 elements"; PAD of 3 at 2 to 5, and to 4
-    ∷ plan (small ∷ move PAD 0 (4 ∷ 5 ∷ []) (0 ∷ 2 ∷ []) ∷ []) is derived 2 3 (negsuc 3) (pos 10) (4 ∷ 5 ∷ [])
+    -- "8: shapes disagree, or over 1048576 elements": PAD of 3 at 2 to 4
     ∷ plan (small ∷ move PAD 0 (4 ∷ 4 ∷ []) (0 ∷ 2 ∷ []) ∷ []) is refusal 8 1
     ∷ plan (big (1024 ∷ 1025 ∷ []) ∷ []) is refusal 8 0
     -- "9: two devices"; "Others take the one non-zero device of their sources"
@@ -152,5 +155,5 @@ facts =
     ∷ []
 
 pub facts-hold : map asked facts ≡ map said facts
-unfolding Rattle.laws.specs.Integers.minZ Rattle.laws.specs.Integers.maxZ Rattle.laws.specs.Integers.min4 Rattle.laws.specs.Integers.max4 Rattle.laws.specs.Integers.floorDiv Rattle.laws.specs.Lists.tab Rattle.laws.specs.Lists.allBelow Rattle.laws.specs.Lists.among Rattle.laws.specs.Lists.occurrences Rattle.laws.specs.Lists.position Rattle.laws.specs.Lists.sum Rattle.laws.specs.Lists.concat Rattle.laws.specs.Lists.lastOr Rattle.laws.specs.Numbering.count Rattle.laws.specs.Numbering.ravel Rattle.laws.specs.Numbering.coord Rattle.plan.specs.Answers.inTurn Rattle.plan.specs.Answers.written Rattle.plan.specs.Operations.uses Rattle.plan.specs.Types.holds Rattle.plan.specs.Types.contains Rattle.plan.specs.Types.rangeOf Rattle.plan.specs.Words.sizeOf Rattle.plan.specs.Words.nodeOf Rattle.plan.specs.Words.wordsOf Rattle.plan.specs.Words.nodeAt Rattle.plan.specs.Words.nodeCount Rattle.plan.specs.Words.overParams Rattle.codec.specs.Numbers.groupsAt Rattle.codec.specs.Numbers.numberAt Rattle.codec.specs.Numbers.wordOf Rattle.codec.specs.Plans.readWord Rattle.codec.specs.Plans.readNode Rattle.codec.specs.Plans.addNode Rattle.codec.specs.Plans.unpack Rattle.shapes.specs.Rows.extentsOf Rattle.shapes.specs.Rows.rowOf Rattle.shapes.specs.Rows.isShapeRow Rattle.shapes.specs.Rows.isFlagRow Rattle.shapes.specs.Rows.isOffsetRow Rattle.shapes.specs.Rows.isPermutation Rattle.shapes.specs.Rules.sameRank Rattle.shapes.specs.Rules.aligned Rattle.shapes.specs.Rules.canBroadcast Rattle.shapes.specs.Rules.broadcast Rattle.shapes.specs.Rules.shapesAgree Rattle.shapes.specs.Rules.permuted Rattle.shapes.specs.Rules.reduced Rattle.shapes.specs.Rules.gatheredExtents Rattle.shapes.specs.Rules.resultExtents Rattle.bounds.specs.Rules.corners Rattle.bounds.specs.Rules.addBounds Rattle.bounds.specs.Rules.mulBounds Rattle.bounds.specs.Rules.maxBounds Rattle.bounds.specs.Rules.idivBounds Rattle.bounds.specs.Rules.modBounds Rattle.bounds.specs.Rules.minBounds Rattle.bounds.specs.Rules.whereBounds Rattle.bounds.specs.Rules.cmpltBounds Rattle.bounds.specs.Rules.disjoint Rattle.bounds.specs.Rules.allEndsEqual Rattle.bounds.specs.Rules.cmpneBounds Rattle.bounds.specs.Rules.gatheredCount Rattle.bounds.specs.Rules.reduceBounds Rattle.bounds.specs.Rules.resultBounds Rattle.verifier.specs.Check.deriveNode Rattle.verifier.specs.Check.nodeRules Rattle.verifier.specs.Check.checkNode Rattle.verifier.specs.Check.lengthRight Rattle.verifier.specs.Check.totalOf Rattle.verifier.specs.Check.verdict Rattle.verifier.specs.Check.derivedWords Rattle.verifier.specs.Check.check Rattle.verifier.specs.Check.unpackCheck Rattle.verifier.specs.Listing.digits Rattle.verifier.specs.Listing.decimal Rattle.verifier.specs.Listing.signed Rattle.verifier.specs.Listing.joined Rattle.verifier.specs.Listing.shapeText Rattle.verifier.specs.Listing.nodeLine Rattle.verifier.specs.Listing.listing Rattle.verifier.specs.Rules.sourceOf Rattle.verifier.specs.Rules.unusedZero Rattle.verifier.specs.Rules.sourcesEarlier Rattle.verifier.specs.Rules.typeNamed Rattle.verifier.specs.Rules.typesAgree Rattle.verifier.specs.Rules.deviceNamed Rattle.verifier.specs.Rules.paramRight Rattle.verifier.specs.Rules.rowsRight Rattle.verifier.specs.Rules.shapeRight Rattle.verifier.specs.Rules.oneDevice Rattle.verifier.specs.Rules.joinDevice Rattle.verifier.specs.Rules.devicesAgree Rattle.verifier.specs.Rules.resultDevice Rattle.verifier.specs.Rules.divisorRight Rattle.verifier.specs.Rules.resultType Rattle.verifier.specs.Rules.derivedOf Rattle.verifier.specs.Rules.boundsInType
+unfolding checking
 facts-hold = refl
