@@ -1,23 +1,25 @@
 #!/usr/bin/env python3
-"""Writes crates/agreement/proofs/: the cases of cases.py as tables whose one theorem each the prover computes.
+"""Writes crates/agreement/proofs/: the cases of cases.py as tables that the prover computes.
 
-usage: tables.py [--check]     --check: exit 1 where the committed files are not what would be written
+usage: tables.py [--check]     --check: exit 1 where the committed files are not what it would write
 """
+
 import os
 import sys
+
+sys.dont_write_bytecode = True
 
 from cases import all_cases, expected, fresh_flags, fresh_words
 
 ROOT = os.path.dirname(os.path.dirname(os.path.dirname(os.path.abspath(__file__))))
 FOLDER = os.path.join(ROOT, 'crates', 'agreement', 'proofs')
 SEED, SCALE, CASES_PER_TABLE = 1, 1, 50
-MADE_BY = '-- Written by tests/model/tables.py: change cases.py or that script, not this file.\n'
 
 
 # ------------------------------------------------------------ writing lists
 
 def repeats(items, first, period):
-    """How often the items from first on repeat, the period's own time among them."""
+    """How often the items from first on stand there, one time after the other."""
     chunk, times = items[first:first + period], 1
     while items[first + times * period:first + (times + 1) * period] == chunk:
         times += 1
@@ -25,25 +27,25 @@ def repeats(items, first, period):
 
 
 def pieces(items):
-    """(times, items) of the parts of a list, long repetitions taken together."""
+    """The parts of a list as (times, items), long repetitions taken together."""
     found, plain, at = [], [], 0
     while at < len(items):
-        times, period = max((repeats(items, at, p) * p - p, -p) for p in range(1, 9))
-        if times < 16:
+        spared, period = max(((repeats(items, at, p) - 1) * p, -p) for p in range(1, 9))
+        if spared < 16:
             plain.append(items[at])
             at += 1
             continue
-        period = -period
-        found += [(1, plain)] * bool(plain) + [(times // period + 1, items[at:at + period])]
-        plain, at = [], at + times + period
+        found += [(1, plain)] * bool(plain)
+        found.append((spared // -period + 1, items[at:at - period]))
+        plain, at = [], at + spared - period
     return found + [(1, plain)] * bool(plain)
 
 
-def joined(texts):
-    """Texts of lists end to end, in parentheses where they must be."""
-    if len(texts) > 1:
-        return '(' + ' ++ '.join(texts) + ')'
-    return texts[0] if texts else '[]'
+def argument(texts):
+    """The lists that the texts are, end to end, as an argument."""
+    if texts and texts[0].startswith('(') and len(texts) == 1:
+        return texts[0]
+    return '(' + ' ++ '.join(texts) + ')' if texts else '[]'
 
 
 def listed(items, show=str):
@@ -51,15 +53,15 @@ def listed(items, show=str):
     for times, part in pieces(list(items)):
         plain = '(' + ' ∷ '.join([*map(show, part), '[]']) + ')'
         texts.append(plain if times == 1 else f'times {times} {plain}')
-    return f'({texts[0]})' if texts and texts[0][0] == 't' and len(texts) == 1 else joined(texts)
+    return argument(texts)
 
 
 def numeral(word):
     return str(2 * word if word >= 0 else -2 * word - 1)
 
 
-def word_list(items):
-    return f'(words {listed(items, numeral)})' if items else '[]'
+def word_texts(words):
+    return [f'words {listed(words, numeral)}'] if words else []
 
 
 def node_text(row):
@@ -67,42 +69,38 @@ def node_text(row):
     return listed(row[:used], numeral)
 
 
-def table_text(table):
-    """Whole nodes without their last zeros, and the words after them."""
+def table_texts(table):
+    """Whole nodes without the zeros that end them, and the words after the last."""
     whole = len(table) // 17 * 17
-    rows = [tuple(table[first:first + 17]) for first in range(0, whole, 17)]
-    texts = [f'nodes {listed(rows, node_text)}'] if rows else []
-    texts += [f'words {listed(table[whole:], numeral)}'] if table[whole:] else []
-    return f'({texts[0]})' if len(texts) == 1 else joined(texts)
+    rows = [table[first:first + 17] for first in range(0, whole, 17)]
+    nodes = [f'nodes {listed(rows, node_text)}'] if rows else []
+    return nodes + word_texts(table[whole:])
 
 
-def buffer_text(buffer, fresh, fresh_name, show_written):
-    """A whole buffer after a call; its last places that are as they were by their rule."""
+def buffer_text(buffer, fresh, fresh_name, texts_of):
+    """A whole buffer after a call: what is new in it, and its end that is as it was."""
     kept = len(buffer)
     while kept and buffer[kept - 1] == fresh[kept - 1]:
         kept -= 1
-    texts = [show_written(buffer[:kept])] if kept else []
-    if kept < len(buffer):
-        texts.append(f'{fresh_name} {kept} {len(buffer) - kept}')
-    return f'({texts[0]})' if len(texts) == 1 and kept == 0 else joined(texts)
+    end = [f'{fresh_name} {kept} {len(buffer) - kept}'] if kept < len(buffer) else []
+    return argument((texts_of(buffer[:kept]) if kept else []) + end)
 
 
 # ------------------------------------------------------------ writing cases
 
-NAMES = {'unpack': 'toUnpack', 'check': 'toCheck', 'unpack_check': 'toUnpackCheck', 'run': 'toRun',
-         'lookup': 'toLookup', 'listing': 'toList'}
+CALLS = {'unpack': 'toUnpack', 'check': 'toCheck', 'unpack_check': 'toUnpackCheck',
+         'run': 'toRun', 'lookup': 'toLookup', 'listing': 'toList'}
 
 
 def call_text(case):
-    texts = [NAMES[case.call]]
-    for place, argument in enumerate(case.args):
-        if isinstance(argument, int):
-            texts.append(str(argument))
-        elif isinstance(argument, bytes) or (case.call == 'run' and place == 2):
-            texts.append(listed(argument))
-        else:
-            texts.append(table_text(argument) if place == 0 else word_list(argument))
-    return ' '.join(texts)
+    if case.call in ('unpack', 'unpack_check', 'listing'):
+        texts = [listed(case.args[0])]
+    else:
+        texts = [argument(table_texts(case.args[0]))]
+    if case.call == 'run':
+        texts += [argument(word_texts(case.args[1])), listed(case.args[2])]
+    numbers = case.args[len(texts):]
+    return ' '.join([CALLS[case.call], *texts, *map(str, numbers)])
 
 
 def result_text(case):
@@ -112,47 +110,61 @@ def result_text(case):
     if case.call == 'listing':
         return f'text {listed(answer)}'
     if case.call == 'lookup':
-        return f'finds (answer {answer.number} {answer.place} 0) {answer.found} {answer.node} {answer.element}'
+        number, place, *found = answer
+        return ' '.join([f'finds (answer {number} {place} 0)', *map(str, found)])
     texts = ['leaves' if len(buffers) == 1 else 'leavesBoth', '(answer %d %d %d)' % answer]
-    show_words = table_text if case.call == 'unpack' else word_list
-    texts.append(buffer_text(buffers[0], fresh_words(len(buffers[0])), 'freshFrom', show_words))
-    if len(buffers) > 1:
-        texts.append(buffer_text(buffers[1], fresh_flags(len(buffers[1])), 'flagsFrom', listed))
+    texts_of = table_texts if case.call == 'unpack' else word_texts
+    fresh = fresh_words(len(buffers[0]))
+    texts.append(buffer_text(buffers[0], fresh, 'freshFrom', texts_of))
+    for flags in buffers[1:]:
+        fresh = fresh_flags(len(flags))
+        texts.append(buffer_text(flags, fresh, 'flagsFrom', lambda items: [listed(items)]))
     return ' '.join(texts)
-
-
-def case_text(case):
-    return f'{call_text(case)} gives {result_text(case)}'
 
 
 # ------------------------------------------------------------ writing files
 
-USES = '''use mathlib.Core.Path.{refl}
-use mathlib.Core.List.{List, [], _∷_, _++_}
-use Rattle.guarantees.proofs.Everything.{everything}
-use Rattle.agreement.specs.Cases.{%s}
+HEAD = '-- Written by tests/model/tables.py: change that script or cases.py, never this file.\n'
+TABLE = HEAD + '''use mathlib.Core.Path.{{refl}}
+use mathlib.Core.List.{{List, [], _∷_, _++_}}
+use Rattle.guarantees.proofs.Everything.{{everything}}
+use Rattle.agreement.specs.Cases.{{words, nodes, times, freshFrom, flagsFrom, {calls}, \
+leaves, leavesBoth, finds, number, text, answer, Case, _gives_, Agree}}
+
+abbrev pub {name} : List Case
+{name} =
+    {rows}
+    ∷ []
+
+pub {name}-agrees : Agree {name}
+unfolding everything
+{name}-agrees = refl
 '''
-CASE_NAMES = ('words nodes times freshFrom flagsFrom toUnpack toCheck toUnpackCheck toRun toLookup toList leaves '
-              'leavesBoth finds number text answer Case _gives_ Agree').split()
 
 
-def file_text(several, number):
-    rows = []
-    for case in several:
-        rows += [f'    -- {case.note}', f'    {"∷ " if rows else ""}{case_text(case)}']
-    name = f'table{number:02}'
-    return '\n'.join([
-        MADE_BY + USES % ', '.join(CASE_NAMES), f'abbrev pub {name} : List Case', f'{name} =', *rows, '    ∷ []', '',
-        f'pub {name}-agrees : Agree {name}', 'unfolding everything', f'{name}-agrees = refl', ''])
+def is_large(case):
+    return sum(len(a) for a in case.args if not isinstance(a, int)) > 700
+
+
+def dealt(cases):
+    """About 50 cases a table and at most one large one: a theorem has 50 million steps."""
+    small = [case for case in cases if not is_large(case)]
+    tables = [small[k:k + CASES_PER_TABLE] for k in range(0, len(small), CASES_PER_TABLE)]
+    for table, case in zip(tables, filter(is_large, cases), strict=False):
+        table.append(case)
+    assert sum(map(len, tables)) == len(cases)
+    return tables
 
 
 def files(cases):
     """The texts of all files by name."""
     texts = {}
-    for first in range(0, len(cases), CASES_PER_TABLE):
-        number = first // CASES_PER_TABLE + 1
-        texts[f'Table{number:02}.antt'] = file_text(cases[first:first + CASES_PER_TABLE], number)
-    texts['Lib.antt'] = MADE_BY + ''.join(f'pub mod {name[:-5]}\n' for name in texts)
+    for number, table in enumerate(dealt(cases), 1):
+        rows = [f'-- {case.note}\n    {"∷ " * (k > 0)}{call_text(case)} gives {result_text(case)}'
+                for k, case in enumerate(table)]
+        texts[f'Table{number:02}.antt'] = TABLE.format(
+            name=f'table{number:02}', rows='\n    '.join(rows), calls=', '.join(CALLS.values()))
+    texts['Lib.antt'] = HEAD + ''.join(f'pub mod {name[:-5]}\n' for name in texts)
     return texts
 
 
@@ -178,7 +190,7 @@ def main():
     if '--check' in sys.argv[1:]:
         sys.exit(made != committed())
     write(made)
-    for call in NAMES:
+    for call in CALLS:
         print(f'{call}: {sum(case.call == call for case in cases)}')
     print(f'{len(cases)} cases in {len(made) - 1} tables')
 

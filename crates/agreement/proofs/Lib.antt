@@ -1,4 +1,4 @@
--- Written by tests/model/tables.py: change cases.py or that script, not this file.
+-- Written by tests/model/tables.py: change that script or cases.py, never this file.
 pub mod Table01
 pub mod Table02
 pub mod Table03

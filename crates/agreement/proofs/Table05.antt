@@ -1,4 +1,4 @@
--- Written by tests/model/tables.py: change cases.py or that script, not this file.
+-- Written by tests/model/tables.py: change that script or cases.py, never this file.
 use mathlib.Core.Path.{refl}
 use mathlib.Core.List.{List, [], _∷_, _++_}
 use Rattle.guarantees.proofs.Everything.{everything}
@@ -7,7 +7,7 @@ use Rattle.agreement.specs.Cases.{words, nodes, times, freshFrom, flagsF
 abbrev pub table05 : List Case
 table05 =
     -- valid op 16 rank 4
-    toRun (nodes ((2 ∷ 0 ∷ 0 ∷ 0 ∷ 0 ∷ 0 ∷ 2 ∷ 0 ∷ 2 ∷ 2 ∷ 2 ∷ 2 ∷ 2 ∷ []) ∷ (2 ∷ 0 ∷ 0 ∷ 0 ∷ 0 ∷ 2 ∷ 2 ∷ 0 ∷ 2 ∷ 4 ∷ 4 ∷ 2 ∷ 4 ∷ []) ∷ (10 ∷ 0 ∷ 0 ∷ 0 ∷ 0 ∷ 0 ∷ 0 ∷ 0 ∷ 0 ∷ 6 ∷ 2 ∷ 4 ∷ 6 ∷ []) ∷ (32 ∷ 2 ∷ 2 ∷ []) ∷ [])) (words (0 ∷ 30 ∷ 65534 ∷ 2 ∷ 65535 ∷ 65534 ∷ 4294967293 ∷ 2 ∷ 65535 ∷ [])) (1 ∷ 0 ∷ 0 ∷ 1 ∷ 0 ∷ 0 ∷ 0 ∷ 1 ∷ 0 ∷ []) 38 35 gives leavesBoth (answer 0 0 6) ((words ((0 ∷ 0 ∷ 0 ∷ 2 ∷ 0 ∷ 0 ∷ 0 ∷ 2 ∷ []) ++ times 21 (0 ∷ []) ++ (2 ∷ 0 ∷ 0 ∷ 0 ∷ 2 ∷ 0 ∷ []))) ++ freshFrom 35 3) ((1 ∷ 0 ∷ 0 ∷ 1 ∷ 0 ∷ 0 ∷ 0 ∷ 1 ∷ 0 ∷ []) ++ times 18 (1 ∷ []) ++ (0 ∷ 0 ∷ 1 ∷ 0 ∷ 0 ∷ 0 ∷ 1 ∷ 0 ∷ []))
+    toRun (nodes ((2 ∷ 0 ∷ 0 ∷ 0 ∷ 0 ∷ 0 ∷ 2 ∷ 0 ∷ 2 ∷ 2 ∷ 2 ∷ 2 ∷ 2 ∷ []) ∷ (2 ∷ 0 ∷ 0 ∷ 0 ∷ 0 ∷ 2 ∷ 2 ∷ 0 ∷ 2 ∷ 4 ∷ 4 ∷ 2 ∷ 4 ∷ []) ∷ (10 ∷ 0 ∷ 0 ∷ 0 ∷ 0 ∷ 0 ∷ 0 ∷ 0 ∷ 0 ∷ 6 ∷ 2 ∷ 4 ∷ 6 ∷ []) ∷ (32 ∷ 2 ∷ 2 ∷ []) ∷ [])) (words (0 ∷ 30 ∷ 65534 ∷ 2 ∷ 65535 ∷ 65534 ∷ 4294967293 ∷ 2 ∷ 65535 ∷ [])) (1 ∷ 0 ∷ 0 ∷ 1 ∷ 0 ∷ 0 ∷ 0 ∷ 1 ∷ 0 ∷ []) 38 35 gives leavesBoth (answer 0 0 6) (words ((0 ∷ 0 ∷ 0 ∷ 2 ∷ 0 ∷ 0 ∷ 0 ∷ 2 ∷ []) ++ times 21 (0 ∷ []) ++ (2 ∷ 0 ∷ 0 ∷ 0 ∷ 2 ∷ 0 ∷ [])) ++ freshFrom 35 3) ((1 ∷ 0 ∷ 0 ∷ 1 ∷ 0 ∷ 0 ∷ 0 ∷ 1 ∷ 0 ∷ []) ++ times 18 (1 ∷ []) ++ (0 ∷ 0 ∷ 1 ∷ 0 ∷ 0 ∷ 0 ∷ 1 ∷ 0 ∷ []))
     -- valid op 16 rank 4
     ∷ toCheck (nodes ((2 ∷ 0 ∷ 0 ∷ 0 ∷ 0 ∷ 0 ∷ 2 ∷ 0 ∷ 2 ∷ 2 ∷ 2 ∷ 2 ∷ 2 ∷ []) ∷ (2 ∷ 0 ∷ 0 ∷ 0 ∷ 0 ∷ 2 ∷ 2 ∷ 0 ∷ 2 ∷ 4 ∷ 4 ∷ 2 ∷ 4 ∷ []) ∷ (10 ∷ 0 ∷ 0 ∷ 0 ∷ 0 ∷ 0 ∷ 0 ∷ 0 ∷ 0 ∷ 6 ∷ 2 ∷ 4 ∷ 6 ∷ []) ∷ (32 ∷ 2 ∷ 2 ∷ []) ∷ [])) 32 gives leaves (answer 0 0 0) (words (0 ∷ 2 ∷ 0 ∷ 2 ∷ 2 ∷ 2 ∷ 2 ∷ 2 ∷ 0 ∷ 2 ∷ 0 ∷ 2 ∷ 4 ∷ 4 ∷ 2 ∷ 4 ∷ 0 ∷ 2 ∷ 0 ∷ 2 ∷ 6 ∷ 2 ∷ 4 ∷ 6 ∷ 0 ∷ 2 ∷ 0 ∷ 2 ∷ 4 ∷ 4 ∷ 2 ∷ 4 ∷ []))
     -- valid op 17 rank 0
@@ -106,6 +106,8 @@ table05 =
     ∷ toCheck (nodes ((2 ∷ 0 ∷ 0 ∷ 0 ∷ 6 ∷ 0 ∷ 2 ∷ 2 ∷ 2 ∷ 4 ∷ 6 ∷ []) ∷ (12 ∷ 0 ∷ 2 ∷ 0 ∷ 0 ∷ 0 ∷ 0 ∷ 0 ∷ 0 ∷ 6 ∷ 10 ∷ 0 ∷ 0 ∷ 2 ∷ 4 ∷ []) ∷ (0 ∷ 0 ∷ 0 ∷ 0 ∷ 2 ∷ 6 ∷ []) ∷ [])) 64 gives leaves (answer 3 1 0) (freshFrom 0 64)
     -- rule 4 op 6
     ∷ toCheck (nodes ((2 ∷ 0 ∷ 0 ∷ 0 ∷ 6 ∷ 0 ∷ 2 ∷ 2 ∷ 2 ∷ 4 ∷ 6 ∷ []) ∷ (12 ∷ 2 ∷ 0 ∷ 0 ∷ 0 ∷ 0 ∷ 0 ∷ 0 ∷ 0 ∷ 6 ∷ 10 ∷ 0 ∷ 0 ∷ 2 ∷ 4 ∷ []) ∷ (198 ∷ []) ∷ [])) 64 gives leaves (answer 4 1 0) (freshFrom 0 64)
+    -- 4353 words
+    ∷ toCheck (nodes (times 256 ((0 ∷ 0 ∷ 0 ∷ 0 ∷ 4 ∷ 17 ∷ []) ∷ [])) ++ words (0 ∷ [])) 2048 gives leaves (answer 1 0 0) (freshFrom 0 2048)
     ∷ []
 
 pub table05-agrees : Agree table05

@@ -1,4 +1,4 @@
--- Written by tests/model/tables.py: change cases.py or that script, not this file.
+-- Written by tests/model/tables.py: change that script or cases.py, never this file.
 use mathlib.Core.Path.{refl}
 use mathlib.Core.List.{List, [], _∷_, _++_}
 use Rattle.guarantees.proofs.Everything.{everything}
@@ -106,6 +106,8 @@ table07 =
     ∷ toCheck (nodes ((2 ∷ 0 ∷ 0 ∷ 0 ∷ 6 ∷ 0 ∷ 2 ∷ 2 ∷ 2 ∷ 4 ∷ 6 ∷ []) ∷ (38 ∷ 1 ∷ 0 ∷ 0 ∷ 0 ∷ 0 ∷ 0 ∷ 0 ∷ 0 ∷ 2 ∷ []) ∷ [])) 64 gives leaves (answer 4 1 0) (freshFrom 0 64)
     -- rule 6 op 19
     ∷ toCheck (nodes ((2 ∷ 0 ∷ 0 ∷ 0 ∷ 0 ∷ 0 ∷ 2 ∷ 2 ∷ 2 ∷ 4 ∷ 6 ∷ []) ∷ (38 ∷ 0 ∷ 0 ∷ 0 ∷ 0 ∷ 0 ∷ 0 ∷ 0 ∷ 0 ∷ 2 ∷ []) ∷ [])) 64 gives leaves (answer 6 1 0) (freshFrom 0 64)
+    -- last of 256 refused
+    ∷ toUnpackCheck ((128 ∷ 2 ∷ []) ++ times 255 (0 ∷ 2 ∷ 18 ∷ []) ++ (20 ∷ 254 ∷ 3 ∷ 2 ∷ [])) gives number 262399
     ∷ []
 
 pub table07-agrees : Agree table07

@@ -1,4 +1,4 @@
--- Written by tests/model/tables.py: change cases.py or that script, not this file.
+-- Written by tests/model/tables.py: change that script or cases.py, never this file.
 use mathlib.Core.Path.{refl}
 use mathlib.Core.List.{List, [], _∷_, _++_}
 use Rattle.guarantees.proofs.Everything.{everything}
@@ -106,6 +106,8 @@ table09 =
     ∷ toCheck (nodes ((2 ∷ 0 ∷ 0 ∷ 0 ∷ 6 ∷ 0 ∷ 2 ∷ 4294967295 ∷ 2 ∷ 4 ∷ 6 ∷ []) ∷ (2 ∷ 0 ∷ 0 ∷ 0 ∷ 6 ∷ 2 ∷ 2 ∷ 1 ∷ 0 ∷ 4 ∷ 6 ∷ []) ∷ (24 ∷ 0 ∷ 2 ∷ []) ∷ (0 ∷ 0 ∷ 0 ∷ 0 ∷ 2 ∷ 6 ∷ []) ∷ [])) 64 gives leaves (answer 10 2 0) (freshFrom 0 64)
     -- rules 2 and 4 op 13
     ∷ toCheck (nodes ((2 ∷ 0 ∷ 0 ∷ 0 ∷ 6 ∷ 0 ∷ 2 ∷ 2 ∷ 2 ∷ 4 ∷ 6 ∷ []) ∷ (2 ∷ 0 ∷ 0 ∷ 0 ∷ 6 ∷ 2 ∷ 2 ∷ 1 ∷ 1 ∷ 4 ∷ 6 ∷ []) ∷ (42 ∷ 0 ∷ 4 ∷ []) ∷ (198 ∷ []) ∷ [])) 64 gives leaves (answer 2 2 0) (freshFrom 0 64)
+    -- listing
+    ∷ toList ((128 ∷ 2 ∷ []) ++ times 256 (0 ∷ 4 ∷ 215 ∷ 4 ∷ []) ++ times 12288 (0 ∷ [])) gives text (114 ∷ 101 ∷ 102 ∷ 117 ∷ 115 ∷ 101 ∷ 100 ∷ 32 ∷ 50 ∷ 50 ∷ 32 ∷ 97 ∷ 116 ∷ 32 ∷ 49 ∷ 48 ∷ 50 ∷ 54 ∷ 10 ∷ [])
     ∷ []
 
 pub table09-agrees : Agree table09

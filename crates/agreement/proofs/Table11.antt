@@ -1,4 +1,4 @@
--- Written by tests/model/tables.py: change cases.py or that script, not this file.
+-- Written by tests/model/tables.py: change that script or cases.py, never this file.
 use mathlib.Core.Path.{refl}
 use mathlib.Core.List.{List, [], _∷_, _++_}
 use Rattle.guarantees.proofs.Everything.{everything}
@@ -27,13 +27,13 @@ table11 =
     -- rules 4 and 7 op 20
     ∷ toCheck (nodes ((2 ∷ 0 ∷ 0 ∷ 0 ∷ 6 ∷ 0 ∷ 2 ∷ 2 ∷ 2 ∷ 4 ∷ 6 ∷ []) ∷ (40 ∷ 1 ∷ []) ∷ (198 ∷ []) ∷ [])) 64 gives leaves (answer 4 1 0) (freshFrom 0 64)
     -- edge op 0 {5: 1}
-    ∷ toCheck (nodes ((0 ∷ 0 ∷ 0 ∷ 0 ∷ 4 ∷ 2 ∷ []) ∷ [])) 40 gives leaves (answer 0 0 0) ((words (4 ∷ 0 ∷ 2 ∷ 2 ∷ 0 ∷ 0 ∷ 0 ∷ 0 ∷ [])) ++ freshFrom 8 32)
+    ∷ toCheck (nodes ((0 ∷ 0 ∷ 0 ∷ 0 ∷ 4 ∷ 2 ∷ []) ∷ [])) 40 gives leaves (answer 0 0 0) (words (4 ∷ 0 ∷ 2 ∷ 2 ∷ 0 ∷ 0 ∷ 0 ∷ 0 ∷ []) ++ freshFrom 8 32)
     -- edge op 2 {9: -32769, 12: 254}
     ∷ toCheck (nodes ((2 ∷ 0 ∷ 0 ∷ 0 ∷ 6 ∷ 0 ∷ 2 ∷ 2 ∷ 2 ∷ 4 ∷ 6 ∷ []) ∷ (4 ∷ 0 ∷ 0 ∷ 0 ∷ 0 ∷ 0 ∷ 0 ∷ 0 ∷ 0 ∷ 65537 ∷ 0 ∷ 0 ∷ 508 ∷ []) ∷ [])) 40 gives leaves (answer 7 1 0) (freshFrom 0 40)
     -- edge op 6 {16: 1048576}
     ∷ toCheck (nodes ((2 ∷ 0 ∷ 0 ∷ 0 ∷ 6 ∷ 0 ∷ 2 ∷ 2 ∷ 2 ∷ 4 ∷ 6 ∷ []) ∷ (12 ∷ 0 ∷ 0 ∷ 0 ∷ 0 ∷ 0 ∷ 0 ∷ 0 ∷ 0 ∷ 6 ∷ 10 ∷ 0 ∷ 0 ∷ 2 ∷ 4 ∷ 0 ∷ 2097152 ∷ []) ∷ [])) 40 gives leaves (answer 7 1 0) (freshFrom 0 40)
     -- edge op 5 {9: 254}
-    ∷ toCheck (nodes ((2 ∷ 0 ∷ 0 ∷ 0 ∷ 6 ∷ 0 ∷ 2 ∷ 2 ∷ 2 ∷ 2 ∷ 6 ∷ []) ∷ (10 ∷ 0 ∷ 0 ∷ 0 ∷ 0 ∷ 0 ∷ 0 ∷ 0 ∷ 0 ∷ 508 ∷ 6 ∷ []) ∷ [])) 40 gives leaves (answer 0 0 0) ((words (6 ∷ 2 ∷ 2 ∷ 2 ∷ 2 ∷ 6 ∷ 0 ∷ 0 ∷ 6 ∷ 2 ∷ 2 ∷ 2 ∷ 508 ∷ 6 ∷ 0 ∷ 0 ∷ [])) ++ freshFrom 16 24)
+    ∷ toCheck (nodes ((2 ∷ 0 ∷ 0 ∷ 0 ∷ 6 ∷ 0 ∷ 2 ∷ 2 ∷ 2 ∷ 2 ∷ 6 ∷ []) ∷ (10 ∷ 0 ∷ 0 ∷ 0 ∷ 0 ∷ 0 ∷ 0 ∷ 0 ∷ 0 ∷ 508 ∷ 6 ∷ []) ∷ [])) 40 gives leaves (answer 0 0 0) (words (6 ∷ 2 ∷ 2 ∷ 2 ∷ 2 ∷ 6 ∷ 0 ∷ 0 ∷ 6 ∷ 2 ∷ 2 ∷ 2 ∷ 508 ∷ 6 ∷ 0 ∷ 0 ∷ []) ++ freshFrom 16 24)
     -- edge op 1 {12: 2147483646}
     ∷ toCheck (nodes ((2 ∷ 0 ∷ 0 ∷ 0 ∷ 6 ∷ 0 ∷ 2 ∷ 7 ∷ 20 ∷ 4 ∷ 6 ∷ 0 ∷ 4294967292 ∷ []) ∷ [])) 40 gives leaves (answer 7 0 0) (freshFrom 0 40)
     -- edge op 1 {9: -9223372036854775808}
@@ -47,7 +47,7 @@ table11 =
     -- edge op 1 {1: 15}
     ∷ toCheck (nodes ((2 ∷ 30 ∷ 0 ∷ 0 ∷ 6 ∷ 0 ∷ 2 ∷ 7 ∷ 20 ∷ 4 ∷ 6 ∷ []) ∷ [])) 40 gives leaves (answer 3 0 0) (freshFrom 0 40)
     -- edge op 1 {11: 16}
-    ∷ toCheck (nodes ((2 ∷ 0 ∷ 0 ∷ 0 ∷ 6 ∷ 0 ∷ 2 ∷ 7 ∷ 20 ∷ 4 ∷ 6 ∷ 32 ∷ []) ∷ [])) 40 gives leaves (answer 0 0 0) ((words (6 ∷ 2 ∷ 7 ∷ 20 ∷ 4 ∷ 6 ∷ 32 ∷ 0 ∷ [])) ++ freshFrom 8 32)
+    ∷ toCheck (nodes ((2 ∷ 0 ∷ 0 ∷ 0 ∷ 6 ∷ 0 ∷ 2 ∷ 7 ∷ 20 ∷ 4 ∷ 6 ∷ 32 ∷ []) ∷ [])) 40 gives leaves (answer 0 0 0) (words (6 ∷ 2 ∷ 7 ∷ 20 ∷ 4 ∷ 6 ∷ 32 ∷ 0 ∷ []) ++ freshFrom 8 32)
     -- edge op 2 {10: 1}
     ∷ toCheck (nodes ((2 ∷ 0 ∷ 0 ∷ 0 ∷ 6 ∷ 0 ∷ 2 ∷ 2 ∷ 2 ∷ 4 ∷ 6 ∷ []) ∷ (4 ∷ 0 ∷ 0 ∷ 0 ∷ 0 ∷ 0 ∷ 0 ∷ 0 ∷ 0 ∷ 2 ∷ 2 ∷ []) ∷ [])) 40 gives leaves (answer 7 1 0) (freshFrom 0 40)
     -- edge op 3 {11: 4, 12: 9223372036854775807}
@@ -55,7 +55,7 @@ table11 =
     -- edge op 0 {4: 21}
     ∷ toCheck (nodes ((0 ∷ 0 ∷ 0 ∷ 0 ∷ 42 ∷ 10 ∷ []) ∷ [])) 40 gives leaves (answer 5 0 0) (freshFrom 0 40)
     -- edge op 20 {6: 3}
-    ∷ toCheck (nodes ((2 ∷ 0 ∷ 0 ∷ 0 ∷ 6 ∷ 0 ∷ 2 ∷ 2 ∷ 2 ∷ 4 ∷ 6 ∷ []) ∷ (40 ∷ 0 ∷ 0 ∷ 0 ∷ 0 ∷ 0 ∷ 6 ∷ []) ∷ [])) 40 gives leaves (answer 0 0 0) ((words (6 ∷ 2 ∷ 2 ∷ 2 ∷ 4 ∷ 6 ∷ 0 ∷ 0 ∷ 6 ∷ 6 ∷ 2 ∷ 2 ∷ 4 ∷ 6 ∷ 0 ∷ 0 ∷ [])) ++ freshFrom 16 24)
+    ∷ toCheck (nodes ((2 ∷ 0 ∷ 0 ∷ 0 ∷ 6 ∷ 0 ∷ 2 ∷ 2 ∷ 2 ∷ 4 ∷ 6 ∷ []) ∷ (40 ∷ 0 ∷ 0 ∷ 0 ∷ 0 ∷ 0 ∷ 6 ∷ []) ∷ [])) 40 gives leaves (answer 0 0 0) (words (6 ∷ 2 ∷ 2 ∷ 2 ∷ 4 ∷ 6 ∷ 0 ∷ 0 ∷ 6 ∷ 6 ∷ 2 ∷ 2 ∷ 4 ∷ 6 ∷ 0 ∷ 0 ∷ []) ++ freshFrom 16 24)
     -- edge op 4 {10: -2147483647}
     ∷ toCheck (nodes ((2 ∷ 0 ∷ 0 ∷ 0 ∷ 6 ∷ 0 ∷ 2 ∷ 2 ∷ 2 ∷ 4 ∷ 6 ∷ []) ∷ (8 ∷ 0 ∷ 0 ∷ 0 ∷ 0 ∷ 0 ∷ 0 ∷ 0 ∷ 0 ∷ 12 ∷ 4294967293 ∷ []) ∷ [])) 40 gives leaves (answer 7 1 0) (freshFrom 0 40)
     -- edge op 4 {12: 20}
@@ -65,7 +65,7 @@ table11 =
     -- edge op 2 {10: -2147483649}
     ∷ toCheck (nodes ((2 ∷ 0 ∷ 0 ∷ 0 ∷ 6 ∷ 0 ∷ 2 ∷ 2 ∷ 2 ∷ 4 ∷ 6 ∷ []) ∷ (4 ∷ 0 ∷ 0 ∷ 0 ∷ 0 ∷ 0 ∷ 0 ∷ 0 ∷ 0 ∷ 2 ∷ 4294967297 ∷ []) ∷ [])) 40 gives leaves (answer 7 1 0) (freshFrom 0 40)
     -- edge op 5 {9: 17}
-    ∷ toCheck (nodes ((2 ∷ 0 ∷ 0 ∷ 0 ∷ 6 ∷ 0 ∷ 2 ∷ 2 ∷ 2 ∷ 2 ∷ 6 ∷ []) ∷ (10 ∷ 0 ∷ 0 ∷ 0 ∷ 0 ∷ 0 ∷ 0 ∷ 0 ∷ 0 ∷ 34 ∷ 6 ∷ []) ∷ [])) 40 gives leaves (answer 0 0 0) ((words (6 ∷ 2 ∷ 2 ∷ 2 ∷ 2 ∷ 6 ∷ 0 ∷ 0 ∷ 6 ∷ 2 ∷ 2 ∷ 2 ∷ 34 ∷ 6 ∷ 0 ∷ 0 ∷ [])) ++ freshFrom 16 24)
+    ∷ toCheck (nodes ((2 ∷ 0 ∷ 0 ∷ 0 ∷ 6 ∷ 0 ∷ 2 ∷ 2 ∷ 2 ∷ 2 ∷ 6 ∷ []) ∷ (10 ∷ 0 ∷ 0 ∷ 0 ∷ 0 ∷ 0 ∷ 0 ∷ 0 ∷ 0 ∷ 34 ∷ 6 ∷ []) ∷ [])) 40 gives leaves (answer 0 0 0) (words (6 ∷ 2 ∷ 2 ∷ 2 ∷ 2 ∷ 6 ∷ 0 ∷ 0 ∷ 6 ∷ 2 ∷ 2 ∷ 2 ∷ 34 ∷ 6 ∷ 0 ∷ 0 ∷ []) ++ freshFrom 16 24)
     -- edge op 5 {9: -1}
     ∷ toCheck (nodes ((2 ∷ 0 ∷ 0 ∷ 0 ∷ 6 ∷ 0 ∷ 2 ∷ 2 ∷ 2 ∷ 2 ∷ 6 ∷ []) ∷ (10 ∷ 0 ∷ 0 ∷ 0 ∷ 0 ∷ 0 ∷ 0 ∷ 0 ∷ 0 ∷ 1 ∷ 6 ∷ []) ∷ [])) 40 gives leaves (answer 7 1 0) (freshFrom 0 40)
     -- edge op 8 {4: 2147483647}
@@ -85,7 +85,7 @@ table11 =
     -- edge op 7 {12: -2147483647, 10: -2147483649}
     ∷ toCheck (nodes ((2 ∷ 0 ∷ 0 ∷ 0 ∷ 6 ∷ 0 ∷ 2 ∷ 2 ∷ 2 ∷ 4 ∷ 6 ∷ []) ∷ (14 ∷ 0 ∷ 0 ∷ 0 ∷ 0 ∷ 0 ∷ 0 ∷ 0 ∷ 0 ∷ 2 ∷ 4294967297 ∷ 0 ∷ 4294967293 ∷ 2 ∷ 2 ∷ []) ∷ [])) 40 gives leaves (answer 7 1 0) (freshFrom 0 40)
     -- edge op 1 {11: 255}
-    ∷ toCheck (nodes ((2 ∷ 0 ∷ 0 ∷ 0 ∷ 6 ∷ 0 ∷ 2 ∷ 7 ∷ 20 ∷ 4 ∷ 6 ∷ 510 ∷ []) ∷ [])) 40 gives leaves (answer 0 0 0) ((words (6 ∷ 2 ∷ 7 ∷ 20 ∷ 4 ∷ 6 ∷ 510 ∷ 0 ∷ [])) ++ freshFrom 8 32)
+    ∷ toCheck (nodes ((2 ∷ 0 ∷ 0 ∷ 0 ∷ 6 ∷ 0 ∷ 2 ∷ 7 ∷ 20 ∷ 4 ∷ 6 ∷ 510 ∷ []) ∷ [])) 40 gives leaves (answer 0 0 0) (words (6 ∷ 2 ∷ 7 ∷ 20 ∷ 4 ∷ 6 ∷ 510 ∷ 0 ∷ []) ++ freshFrom 8 32)
     -- edge op 0 {3: -4294967296}
     ∷ toCheck (nodes ((0 ∷ 0 ∷ 0 ∷ 8589934591 ∷ 4 ∷ 10 ∷ []) ∷ [])) 40 gives leaves (answer 3 0 0) (freshFrom 0 40)
     -- edge op 8 {4: 15}
@@ -95,13 +95,13 @@ table11 =
     -- edge op 20 {6: 32766}
     ∷ toCheck (nodes ((2 ∷ 0 ∷ 0 ∷ 0 ∷ 6 ∷ 0 ∷ 2 ∷ 2 ∷ 2 ∷ 4 ∷ 6 ∷ []) ∷ (40 ∷ 0 ∷ 0 ∷ 0 ∷ 0 ∷ 0 ∷ 65532 ∷ []) ∷ [])) 40 gives leaves (answer 7 1 0) (freshFrom 0 40)
     -- edge op 0 {5: 254}
-    ∷ toCheck (nodes ((0 ∷ 0 ∷ 0 ∷ 0 ∷ 4 ∷ 508 ∷ []) ∷ [])) 40 gives leaves (answer 0 0 0) ((words (4 ∷ 0 ∷ 508 ∷ 508 ∷ 0 ∷ 0 ∷ 0 ∷ 0 ∷ [])) ++ freshFrom 8 32)
+    ∷ toCheck (nodes ((0 ∷ 0 ∷ 0 ∷ 0 ∷ 4 ∷ 508 ∷ []) ∷ [])) 40 gives leaves (answer 0 0 0) (words (4 ∷ 0 ∷ 508 ∷ 508 ∷ 0 ∷ 0 ∷ 0 ∷ 0 ∷ []) ++ freshFrom 8 32)
     -- edge op 1 {7: 1, 5: 17}
     ∷ toCheck (nodes ((2 ∷ 0 ∷ 0 ∷ 0 ∷ 6 ∷ 34 ∷ 2 ∷ 2 ∷ 20 ∷ 4 ∷ 6 ∷ []) ∷ [])) 40 gives leaves (answer 7 0 0) (freshFrom 0 40)
     -- edge op 9 {2: 9223372036854775807}
     ∷ toCheck (nodes ((2 ∷ 0 ∷ 0 ∷ 0 ∷ 6 ∷ 0 ∷ 2 ∷ 2 ∷ 2 ∷ 4 ∷ 6 ∷ []) ∷ (2 ∷ 0 ∷ 0 ∷ 0 ∷ 6 ∷ 2 ∷ 2 ∷ 2 ∷ 2 ∷ 4 ∷ 6 ∷ []) ∷ (18 ∷ 0 ∷ 18446744073709551614 ∷ []) ∷ [])) 40 gives leaves (answer 4 2 0) (freshFrom 0 40)
     -- edge op 20 {6: 17}
-    ∷ toCheck (nodes ((2 ∷ 0 ∷ 0 ∷ 0 ∷ 6 ∷ 0 ∷ 2 ∷ 2 ∷ 2 ∷ 4 ∷ 6 ∷ []) ∷ (40 ∷ 0 ∷ 0 ∷ 0 ∷ 0 ∷ 0 ∷ 34 ∷ []) ∷ [])) 40 gives leaves (answer 0 0 0) ((words (6 ∷ 2 ∷ 2 ∷ 2 ∷ 4 ∷ 6 ∷ 0 ∷ 0 ∷ 6 ∷ 34 ∷ 2 ∷ 2 ∷ 4 ∷ 6 ∷ 0 ∷ 0 ∷ [])) ++ freshFrom 16 24)
+    ∷ toCheck (nodes ((2 ∷ 0 ∷ 0 ∷ 0 ∷ 6 ∷ 0 ∷ 2 ∷ 2 ∷ 2 ∷ 4 ∷ 6 ∷ []) ∷ (40 ∷ 0 ∷ 0 ∷ 0 ∷ 0 ∷ 0 ∷ 34 ∷ []) ∷ [])) 40 gives leaves (answer 0 0 0) (words (6 ∷ 2 ∷ 2 ∷ 2 ∷ 4 ∷ 6 ∷ 0 ∷ 0 ∷ 6 ∷ 34 ∷ 2 ∷ 2 ∷ 4 ∷ 6 ∷ 0 ∷ 0 ∷ []) ++ freshFrom 16 24)
     -- edge op 4 {10: 1048576}
     ∷ toCheck (nodes ((2 ∷ 0 ∷ 0 ∷ 0 ∷ 6 ∷ 0 ∷ 2 ∷ 2 ∷ 2 ∷ 4 ∷ 6 ∷ []) ∷ (8 ∷ 0 ∷ 0 ∷ 0 ∷ 0 ∷ 0 ∷ 0 ∷ 0 ∷ 0 ∷ 12 ∷ 2097152 ∷ []) ∷ [])) 40 gives leaves (answer 8 1 0) (freshFrom 0 40)
     -- edge op 20 {6: 32768}

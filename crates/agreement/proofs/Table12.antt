@@ -1,4 +1,4 @@
--- Written by tests/model/tables.py: change cases.py or that script, not this file.
+-- Written by tests/model/tables.py: change that script or cases.py, never this file.
 use mathlib.Core.Path.{refl}
 use mathlib.Core.List.{List, [], _∷_, _++_}
 use Rattle.guarantees.proofs.Everything.{everything}
@@ -25,7 +25,7 @@ table12 =
     -- edge op 12 {1: 20}
     ∷ toCheck (nodes ((2 ∷ 0 ∷ 0 ∷ 0 ∷ 6 ∷ 0 ∷ 2 ∷ 2 ∷ 2 ∷ 4 ∷ 6 ∷ []) ∷ (2 ∷ 0 ∷ 0 ∷ 0 ∷ 6 ∷ 2 ∷ 2 ∷ 1 ∷ 1 ∷ 4 ∷ 6 ∷ []) ∷ (24 ∷ 40 ∷ 2 ∷ []) ∷ [])) 40 gives leaves (answer 4 2 0) (freshFrom 0 40)
     -- edge op 20 {6: 20}
-    ∷ toCheck (nodes ((2 ∷ 0 ∷ 0 ∷ 0 ∷ 6 ∷ 0 ∷ 2 ∷ 2 ∷ 2 ∷ 4 ∷ 6 ∷ []) ∷ (40 ∷ 0 ∷ 0 ∷ 0 ∷ 0 ∷ 0 ∷ 40 ∷ []) ∷ [])) 40 gives leaves (answer 0 0 0) ((words (6 ∷ 2 ∷ 2 ∷ 2 ∷ 4 ∷ 6 ∷ 0 ∷ 0 ∷ 6 ∷ 40 ∷ 2 ∷ 2 ∷ 4 ∷ 6 ∷ 0 ∷ 0 ∷ [])) ++ freshFrom 16 24)
+    ∷ toCheck (nodes ((2 ∷ 0 ∷ 0 ∷ 0 ∷ 6 ∷ 0 ∷ 2 ∷ 2 ∷ 2 ∷ 4 ∷ 6 ∷ []) ∷ (40 ∷ 0 ∷ 0 ∷ 0 ∷ 0 ∷ 0 ∷ 40 ∷ []) ∷ [])) 40 gives leaves (answer 0 0 0) (words (6 ∷ 2 ∷ 2 ∷ 2 ∷ 4 ∷ 6 ∷ 0 ∷ 0 ∷ 6 ∷ 40 ∷ 2 ∷ 2 ∷ 4 ∷ 6 ∷ 0 ∷ 0 ∷ []) ++ freshFrom 16 24)
     -- edge op 7 {13: 9223372036854775807}
     ∷ toCheck (nodes ((2 ∷ 0 ∷ 0 ∷ 0 ∷ 6 ∷ 0 ∷ 2 ∷ 2 ∷ 2 ∷ 4 ∷ 6 ∷ []) ∷ (14 ∷ 0 ∷ 0 ∷ 0 ∷ 0 ∷ 0 ∷ 0 ∷ 0 ∷ 0 ∷ 2 ∷ 4 ∷ 0 ∷ 0 ∷ 18446744073709551614 ∷ 2 ∷ []) ∷ [])) 40 gives leaves (answer 7 1 0) (freshFrom 0 40)
     -- edge op 1 {8: 32768, 11: 2147483647}
@@ -41,7 +41,7 @@ table12 =
     -- edge op 14 {1: -32767}
     ∷ toCheck (nodes ((2 ∷ 0 ∷ 0 ∷ 0 ∷ 6 ∷ 0 ∷ 2 ∷ 2 ∷ 2 ∷ 4 ∷ 6 ∷ []) ∷ (2 ∷ 0 ∷ 0 ∷ 0 ∷ 6 ∷ 2 ∷ 2 ∷ 2 ∷ 2 ∷ 4 ∷ 6 ∷ []) ∷ (28 ∷ 65533 ∷ 2 ∷ []) ∷ [])) 40 gives leaves (answer 4 2 0) (freshFrom 0 40)
     -- edge op 19 {5: 0}
-    ∷ toCheck (nodes ((2 ∷ 0 ∷ 0 ∷ 0 ∷ 6 ∷ 0 ∷ 2 ∷ 2 ∷ 2 ∷ 4 ∷ 6 ∷ []) ∷ (38 ∷ 0 ∷ 0 ∷ 0 ∷ 0 ∷ 0 ∷ 0 ∷ 0 ∷ 0 ∷ 2 ∷ []) ∷ [])) 40 gives leaves (answer 0 0 0) ((words (6 ∷ 2 ∷ 2 ∷ 2 ∷ 4 ∷ 6 ∷ 0 ∷ 0 ∷ 6 ∷ 2 ∷ 4 ∷ 4 ∷ 2 ∷ 6 ∷ 0 ∷ 0 ∷ [])) ++ freshFrom 16 24)
+    ∷ toCheck (nodes ((2 ∷ 0 ∷ 0 ∷ 0 ∷ 6 ∷ 0 ∷ 2 ∷ 2 ∷ 2 ∷ 4 ∷ 6 ∷ []) ∷ (38 ∷ 0 ∷ 0 ∷ 0 ∷ 0 ∷ 0 ∷ 0 ∷ 0 ∷ 0 ∷ 2 ∷ []) ∷ [])) 40 gives leaves (answer 0 0 0) (words (6 ∷ 2 ∷ 2 ∷ 2 ∷ 4 ∷ 6 ∷ 0 ∷ 0 ∷ 6 ∷ 2 ∷ 4 ∷ 4 ∷ 2 ∷ 6 ∷ 0 ∷ 0 ∷ []) ++ freshFrom 16 24)
     -- edge op 2 {12: 2}
     ∷ toCheck (nodes ((2 ∷ 0 ∷ 0 ∷ 0 ∷ 6 ∷ 0 ∷ 2 ∷ 2 ∷ 2 ∷ 4 ∷ 6 ∷ []) ∷ (4 ∷ 0 ∷ 0 ∷ 0 ∷ 0 ∷ 0 ∷ 0 ∷ 0 ∷ 0 ∷ 2 ∷ 0 ∷ 0 ∷ 4 ∷ []) ∷ [])) 40 gives leaves (answer 7 1 0) (freshFrom 0 40)
     -- edge op 2 {12: 16}
@@ -53,7 +53,7 @@ table12 =
     -- edge op 0 {4: 16}
     ∷ toCheck (nodes ((0 ∷ 0 ∷ 0 ∷ 0 ∷ 32 ∷ 10 ∷ []) ∷ [])) 40 gives leaves (answer 5 0 0) (freshFrom 0 40)
     -- edge op 6 {13: 0}
-    ∷ toCheck (nodes ((2 ∷ 0 ∷ 0 ∷ 0 ∷ 6 ∷ 0 ∷ 2 ∷ 2 ∷ 2 ∷ 4 ∷ 6 ∷ []) ∷ (12 ∷ 0 ∷ 0 ∷ 0 ∷ 0 ∷ 0 ∷ 0 ∷ 0 ∷ 0 ∷ 6 ∷ 10 ∷ 0 ∷ 0 ∷ 0 ∷ 4 ∷ []) ∷ [])) 40 gives leaves (answer 0 0 0) ((words (6 ∷ 2 ∷ 2 ∷ 2 ∷ 4 ∷ 6 ∷ 0 ∷ 0 ∷ 6 ∷ 2 ∷ 2 ∷ 2 ∷ 6 ∷ 10 ∷ 0 ∷ 0 ∷ [])) ++ freshFrom 16 24)
+    ∷ toCheck (nodes ((2 ∷ 0 ∷ 0 ∷ 0 ∷ 6 ∷ 0 ∷ 2 ∷ 2 ∷ 2 ∷ 4 ∷ 6 ∷ []) ∷ (12 ∷ 0 ∷ 0 ∷ 0 ∷ 0 ∷ 0 ∷ 0 ∷ 0 ∷ 0 ∷ 6 ∷ 10 ∷ 0 ∷ 0 ∷ 0 ∷ 4 ∷ []) ∷ [])) 40 gives leaves (answer 0 0 0) (words (6 ∷ 2 ∷ 2 ∷ 2 ∷ 4 ∷ 6 ∷ 0 ∷ 0 ∷ 6 ∷ 2 ∷ 2 ∷ 2 ∷ 6 ∷ 10 ∷ 0 ∷ 0 ∷ []) ++ freshFrom 16 24)
     -- edge op 16 {8: 17, 2: -2147483648}
     ∷ toCheck (nodes ((2 ∷ 0 ∷ 0 ∷ 0 ∷ 0 ∷ 0 ∷ 2 ∷ 2 ∷ 2 ∷ 4 ∷ 6 ∷ []) ∷ (2 ∷ 0 ∷ 0 ∷ 0 ∷ 0 ∷ 2 ∷ 2 ∷ 2 ∷ 2 ∷ 4 ∷ 6 ∷ []) ∷ (32 ∷ 0 ∷ 4294967295 ∷ 0 ∷ 0 ∷ 0 ∷ 0 ∷ 0 ∷ 34 ∷ []) ∷ [])) 40 gives leaves (answer 3 2 0) (freshFrom 0 40)
     -- edge op 7 {12: 32767}
@@ -103,9 +103,9 @@ table12 =
     -- edge op 19 {10: 255}
     ∷ toCheck (nodes ((2 ∷ 0 ∷ 0 ∷ 0 ∷ 6 ∷ 0 ∷ 2 ∷ 2 ∷ 2 ∷ 4 ∷ 6 ∷ []) ∷ (38 ∷ 0 ∷ 0 ∷ 0 ∷ 0 ∷ 0 ∷ 0 ∷ 0 ∷ 0 ∷ 2 ∷ 510 ∷ []) ∷ [])) 40 gives leaves (answer 7 1 0) (freshFrom 0 40)
     -- edge op 1 {11: 2, 10: 1}
-    ∷ toCheck (nodes ((2 ∷ 0 ∷ 0 ∷ 0 ∷ 6 ∷ 0 ∷ 2 ∷ 7 ∷ 20 ∷ 4 ∷ 2 ∷ 4 ∷ []) ∷ [])) 40 gives leaves (answer 0 0 0) ((words (6 ∷ 2 ∷ 7 ∷ 20 ∷ 4 ∷ 2 ∷ 4 ∷ 0 ∷ [])) ++ freshFrom 8 32)
+    ∷ toCheck (nodes ((2 ∷ 0 ∷ 0 ∷ 0 ∷ 6 ∷ 0 ∷ 2 ∷ 7 ∷ 20 ∷ 4 ∷ 2 ∷ 4 ∷ []) ∷ [])) 40 gives leaves (answer 0 0 0) (words (6 ∷ 2 ∷ 7 ∷ 20 ∷ 4 ∷ 2 ∷ 4 ∷ 0 ∷ []) ++ freshFrom 8 32)
     -- edge op 5 {9: 20}
-    ∷ toCheck (nodes ((2 ∷ 0 ∷ 0 ∷ 0 ∷ 6 ∷ 0 ∷ 2 ∷ 2 ∷ 2 ∷ 2 ∷ 6 ∷ []) ∷ (10 ∷ 0 ∷ 0 ∷ 0 ∷ 0 ∷ 0 ∷ 0 ∷ 0 ∷ 0 ∷ 40 ∷ 6 ∷ []) ∷ [])) 40 gives leaves (answer 0 0 0) ((words (6 ∷ 2 ∷ 2 ∷ 2 ∷ 2 ∷ 6 ∷ 0 ∷ 0 ∷ 6 ∷ 2 ∷ 2 ∷ 2 ∷ 40 ∷ 6 ∷ 0 ∷ 0 ∷ [])) ++ freshFrom 16 24)
+    ∷ toCheck (nodes ((2 ∷ 0 ∷ 0 ∷ 0 ∷ 6 ∷ 0 ∷ 2 ∷ 2 ∷ 2 ∷ 2 ∷ 6 ∷ []) ∷ (10 ∷ 0 ∷ 0 ∷ 0 ∷ 0 ∷ 0 ∷ 0 ∷ 0 ∷ 0 ∷ 40 ∷ 6 ∷ []) ∷ [])) 40 gives leaves (answer 0 0 0) (words (6 ∷ 2 ∷ 2 ∷ 2 ∷ 2 ∷ 6 ∷ 0 ∷ 0 ∷ 6 ∷ 2 ∷ 2 ∷ 2 ∷ 40 ∷ 6 ∷ 0 ∷ 0 ∷ []) ++ freshFrom 16 24)
     ∷ []
 
 pub table12-agrees : Agree table12

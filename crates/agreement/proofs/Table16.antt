@@ -1,4 +1,4 @@
--- Written by tests/model/tables.py: change cases.py or that script, not this file.
+-- Written by tests/model/tables.py: change that script or cases.py, never this file.
 use mathlib.Core.Path.{refl}
 use mathlib.Core.List.{List, [], _∷_, _++_}
 use Rattle.guarantees.proofs.Everything.{everything}
@@ -36,14 +36,6 @@ table16 =
     ∷ toCheck [] 0 gives leaves (answer 1 0 0) []
     -- 1 nodes
     ∷ toCheck (nodes ((0 ∷ 0 ∷ 0 ∷ 0 ∷ 2 ∷ 18 ∷ []) ∷ [])) 8 gives leaves (answer 0 0 0) (words (2 ∷ 0 ∷ 18 ∷ 18 ∷ 0 ∷ 0 ∷ 0 ∷ 0 ∷ []))
-    -- 255 nodes
-    ∷ toCheck (nodes (times 255 ((0 ∷ 0 ∷ 0 ∷ 0 ∷ 2 ∷ 18 ∷ []) ∷ []))) 2040 gives leaves (answer 0 0 0) (words (times 255 (2 ∷ 0 ∷ 18 ∷ 18 ∷ 0 ∷ 0 ∷ 0 ∷ 0 ∷ [])))
-    -- 256 nodes
-    ∷ toCheck (nodes (times 256 ((0 ∷ 0 ∷ 0 ∷ 0 ∷ 2 ∷ 18 ∷ []) ∷ []))) 2048 gives leaves (answer 0 0 0) (words (times 256 (2 ∷ 0 ∷ 18 ∷ 18 ∷ 0 ∷ 0 ∷ 0 ∷ 0 ∷ [])))
-    -- 257 nodes
-    ∷ toCheck (nodes (times 257 ((0 ∷ 0 ∷ 0 ∷ 0 ∷ 2 ∷ 18 ∷ []) ∷ []))) 2056 gives leaves (answer 1 0 0) (freshFrom 0 2056)
-    -- 256 nodes, last refused
-    ∷ toCheck (nodes (times 255 ((0 ∷ 0 ∷ 0 ∷ 0 ∷ 2 ∷ 18 ∷ []) ∷ []) ++ ((18 ∷ 508 ∷ 510 ∷ []) ∷ []))) 2048 gives leaves (answer 4 255 0) (freshFrom 0 2048)
     -- 1 words
     ∷ toCheck (words (0 ∷ [])) 0 gives leaves (answer 1 0 0) []
     -- 16 words
@@ -52,8 +44,6 @@ table16 =
     ∷ toCheck (nodes ((0 ∷ 0 ∷ 0 ∷ 0 ∷ 4 ∷ 17 ∷ []) ∷ []) ++ words (0 ∷ [])) 8 gives leaves (answer 1 0 0) (freshFrom 0 8)
     -- 33 words
     ∷ toCheck (nodes ((0 ∷ 0 ∷ 0 ∷ 0 ∷ 4 ∷ 17 ∷ []) ∷ []) ++ words (0 ∷ 0 ∷ 0 ∷ 0 ∷ 4 ∷ 17 ∷ 0 ∷ 0 ∷ 0 ∷ 0 ∷ 0 ∷ 0 ∷ 0 ∷ 0 ∷ 0 ∷ 0 ∷ [])) 8 gives leaves (answer 1 0 0) (freshFrom 0 8)
-    -- 4353 words
-    ∷ toCheck (nodes (times 256 ((0 ∷ 0 ∷ 0 ∷ 0 ∷ 4 ∷ 17 ∷ []) ∷ [])) ++ words (0 ∷ [])) 2048 gives leaves (answer 1 0 0) (freshFrom 0 2048)
     -- 16 PARAMs
     ∷ toCheck (nodes ((2 ∷ 0 ∷ 0 ∷ 0 ∷ 6 ∷ 0 ∷ 2 ∷ 0 ∷ 2 ∷ 2 ∷ []) ∷ (2 ∷ 0 ∷ 0 ∷ 0 ∷ 6 ∷ 2 ∷ 2 ∷ 0 ∷ 2 ∷ 2 ∷ []) ∷ (2 ∷ 0 ∷ 0 ∷ 0 ∷ 6 ∷ 4 ∷ 2 ∷ 0 ∷ 2 ∷ 2 ∷ []) ∷ (2 ∷ 0 ∷ 0 ∷ 0 ∷ 6 ∷ 6 ∷ 2 ∷ 0 ∷ 2 ∷ 2 ∷ []) ∷ (2 ∷ 0 ∷ 0 ∷ 0 ∷ 6 ∷ 8 ∷ 2 ∷ 0 ∷ 2 ∷ 2 ∷ []) ∷ (2 ∷ 0 ∷ 0 ∷ 0 ∷ 6 ∷ 10 ∷ 2 ∷ 0 ∷ 2 ∷ 2 ∷ []) ∷ (2 ∷ 0 ∷ 0 ∷ 0 ∷ 6 ∷ 12 ∷ 2 ∷ 0 ∷ 2 ∷ 2 ∷ []) ∷ (2 ∷ 0 ∷ 0 ∷ 0 ∷ 6 ∷ 14 ∷ 2 ∷ 0 ∷ 2 ∷ 2 ∷ []) ∷ (2 ∷ 0 ∷ 0 ∷ 0 ∷ 6 ∷ 16 ∷ 2 ∷ 0 ∷ 2 ∷ 2 ∷ []) ∷ (2 ∷ 0 ∷ 0 ∷ 0 ∷ 6 ∷ 18 ∷ 2 ∷ 0 ∷ 2 ∷ 2 ∷ []) ∷ (2 ∷ 0 ∷ 0 ∷ 0 ∷ 6 ∷ 20 ∷ 2 ∷ 0 ∷ 2 ∷ 2 ∷ []) ∷ (2 ∷ 0 ∷ 0 ∷ 0 ∷ 6 ∷ 22 ∷ 2 ∷ 0 ∷ 2 ∷ 2 ∷ []) ∷ (2 ∷ 0 ∷ 0 ∷ 0 ∷ 6 ∷ 24 ∷ 2 ∷ 0 ∷ 2 ∷ 2 ∷ []) ∷ (2 ∷ 0 ∷ 0 ∷ 0 ∷ 6 ∷ 26 ∷ 2 ∷ 0 ∷ 2 ∷ 2 ∷ []) ∷ (2 ∷ 0 ∷ 0 ∷ 0 ∷ 6 ∷ 28 ∷ 2 ∷ 0 ∷ 2 ∷ 2 ∷ []) ∷ (2 ∷ 0 ∷ 0 ∷ 0 ∷ 6 ∷ 30 ∷ 2 ∷ 0 ∷ 2 ∷ 2 ∷ []) ∷ [])) 128 gives leaves (answer 0 0 0) (words (times 16 (6 ∷ 2 ∷ 0 ∷ 2 ∷ 2 ∷ 0 ∷ 0 ∷ 0 ∷ [])))
     -- 17 PARAMs
@@ -106,6 +96,16 @@ table16 =
     ∷ toCheck (nodes ((2 ∷ 0 ∷ 0 ∷ 0 ∷ 6 ∷ 0 ∷ 2 ∷ 0 ∷ 2 ∷ 4 ∷ []) ∷ (4 ∷ []) ∷ [])) 16 gives leaves (answer 0 0 0) (words (6 ∷ 2 ∷ 0 ∷ 2 ∷ 4 ∷ 0 ∷ 0 ∷ 0 ∷ 6 ∷ 2 ∷ 0 ∷ 2 ∷ 4 ∷ 0 ∷ 0 ∷ 0 ∷ []))
     -- PERMUTE rank 1 (0,)
     ∷ toCheck (nodes ((2 ∷ 0 ∷ 0 ∷ 0 ∷ 6 ∷ 0 ∷ 2 ∷ 0 ∷ 2 ∷ 4 ∷ []) ∷ (4 ∷ []) ∷ [])) 16 gives leaves (answer 0 0 0) (words (6 ∷ 2 ∷ 0 ∷ 2 ∷ 4 ∷ 0 ∷ 0 ∷ 0 ∷ 6 ∷ 2 ∷ 0 ∷ 2 ∷ 4 ∷ 0 ∷ 0 ∷ 0 ∷ []))
+    -- FLIP rank 1 (1, 1)
+    ∷ toCheck (nodes ((2 ∷ 0 ∷ 0 ∷ 0 ∷ 6 ∷ 0 ∷ 2 ∷ 0 ∷ 2 ∷ 4 ∷ []) ∷ (6 ∷ 0 ∷ 0 ∷ 0 ∷ 0 ∷ 0 ∷ 0 ∷ 0 ∷ 0 ∷ 2 ∷ 2 ∷ []) ∷ [])) 16 gives leaves (answer 7 1 0) (freshFrom 0 16)
+    -- REDUCE rank 1 (2,)
+    ∷ toCheck (nodes ((2 ∷ 0 ∷ 0 ∷ 0 ∷ 6 ∷ 0 ∷ 2 ∷ 0 ∷ 2 ∷ 4 ∷ []) ∷ (38 ∷ 0 ∷ 0 ∷ 0 ∷ 0 ∷ 2 ∷ 0 ∷ 0 ∷ 0 ∷ 4 ∷ []) ∷ [])) 16 gives leaves (answer 7 1 0) (freshFrom 0 16)
+    -- PAD rank 1 (0, 1)
+    ∷ toCheck (nodes ((2 ∷ 0 ∷ 0 ∷ 0 ∷ 6 ∷ 0 ∷ 2 ∷ 0 ∷ 2 ∷ 4 ∷ []) ∷ (12 ∷ 0 ∷ 0 ∷ 0 ∷ 0 ∷ 0 ∷ 0 ∷ 0 ∷ 0 ∷ 6 ∷ 0 ∷ 0 ∷ 0 ∷ 0 ∷ 2 ∷ []) ∷ [])) 16 gives leaves (answer 7 1 0) (freshFrom 0 16)
+    -- PAD rank 1 (1048576,)
+    ∷ toCheck (nodes ((2 ∷ 0 ∷ 0 ∷ 0 ∷ 6 ∷ 0 ∷ 2 ∷ 0 ∷ 2 ∷ 4 ∷ []) ∷ (12 ∷ 0 ∷ 0 ∷ 0 ∷ 0 ∷ 0 ∷ 0 ∷ 0 ∷ 0 ∷ 6 ∷ 0 ∷ 0 ∷ 0 ∷ 2097152 ∷ []) ∷ [])) 16 gives leaves (answer 8 1 0) (freshFrom 0 16)
+    -- PERMUTE rank 2 (0, 0)
+    ∷ toCheck (nodes ((2 ∷ 0 ∷ 0 ∷ 0 ∷ 6 ∷ 0 ∷ 2 ∷ 0 ∷ 2 ∷ 4 ∷ 6 ∷ []) ∷ (4 ∷ []) ∷ [])) 16 gives leaves (answer 7 1 0) (freshFrom 0 16)
     ∷ []
 
 pub table16-agrees : Agree table16

@@ -4,11 +4,10 @@ use mathlib.Core.Path.{_≡_, refl}
 use mathlib.Core.List.{List, [], _∷_, map}
 use lib.IntN.{ℤ, pos, negsuc}
 use lib.ListN.{length}
-use Rattle.plan.specs.declared.Node.{Node}
 use Rattle.plan.specs.Operations.{CONST, PARAM, FLIP, PAD, CAST, ADD, MUL, MAX, IDIV, MOD, CMPLT, CMPNE, AND, OR, WHERE, REDUCE, LOAD}
 use Rattle.shapes.proofs.Facts.{nodeWith}
 use Rattle.cells.specs.Cells.{Cell, known, gap, Field}
-use Rattle.cells.specs.Nodes.{Operands, evalNode}
+use Rattle.cells.specs.Nodes.{evalNode}
 
 pub data Fact : Type 0 where
   _is_ : List Cell → List Cell → Fact

@@ -1,8 +1,11 @@
 -- What holds of each row of a table holds of every operation.
-use Prim.Native.Nat.{ℕ, _<_}
+use Prim.Native.Nat.{ℕ, zero, suc, _+_, _<_, _≤_}
 use mathlib.Core.Path.{_≡_, refl, sym, subst}
 use mathlib.Core.Bool.{Bool, true, false, _||_, cond, false≢true}
+use mathlib.Core.Logic.{⊎-elim}
 use mathlib.Core.List.{List, [], _∷_, _++_}
+use native.Mathlib.Omega.{arith}
+use native.Mathlib.Nat.{eq-or-lt-of-le}
 use borrow.Author.Tests.{eqb-true}
 use lib.Dec.{eqb}
 use Rattle.laws.specs.Lists.{allBelow, among}
@@ -59,6 +62,16 @@ unfolding among
 for-group P op [] each m = absurd (false≢true m)
 for-group P op (k ∷ ks) each m =
     or-true (eqb op k) (among op ks) m (λ q. subst P (sym (eqb-true op k q)) (each .0)) (λ q. for-group P op ks (each .1) q)
+
+-- the operations from k on, n of them
+abbrev pub EachFrom : (ℕ → Type 0) → ℕ → ℕ → Type 0
+EachFrom P k zero = Unit
+EachFrom P k (suc n) = P k × EachFrom P (suc k) n
+
+pub for-range : (P : ℕ → Type 0) (op k n : ℕ) → EachFrom P k n → k ≤ op → op < k + n → P op
+for-range P op k zero each low high = absurd (omega arith)
+for-range P op k (suc n) each low high =
+    ⊎-elim (λ (q : k ≡ op). subst P q (each .0)) (λ (q : k < op). for-range P op (suc k) n (each .1) q (omega arith)) (eq-or-lt-of-le low)
 
 -- the only one of a row
 pub only : (op k : ℕ) → among op (k ∷ []) ≡ true → op ≡ k

@@ -3,3 +3,4 @@ pub mod Inputs
 pub mod Sound
 pub mod Gaps
 pub mod Completes
+pub mod Facts

@@ -96,14 +96,14 @@ facts =
     -- "RESHAPE: equal element counts."
     ∷ tests (fits RESHAPE (2 ∷ 3 ∷ []) (6 ∷ []) [] ∷ fits RESHAPE (2 ∷ 3 ∷ []) (5 ∷ []) [] ∷ []) is tests (true ∷ false ∷ [])
     -- "EXPAND: same rank, s_k is 1 or s'_k."
-    ∷ tests (fits EXPAND (2 ∷ 1 ∷ []) (2 ∷ 4 ∷ []) [] ∷ fits EXPAND (2 ∷ 1 ∷ []) (3 ∷ 4 ∷ []) [] ∷ fits EXPAND (1 ∷ []) (1 ∷ 4 ∷ []) [] ∷ [])
+    ∷ tests (fits EXPAND (2 ∷ 1 ∷ []) (2 ∷ 4 ∷ []) [] ∷ fits EXPAND (2 ∷ 1 ∷ []) (1 ∷ 4 ∷ []) [] ∷ fits EXPAND (1 ∷ []) (1 ∷ 4 ∷ []) [] ∷ [])
     is tests (true ∷ false ∷ false ∷ [])
     -- "PAD with o+s equal to s': accepted; one more: 8."
     ∷ tests (fits PAD (2 ∷ []) (5 ∷ []) (3 ∷ []) ∷ fits PAD (2 ∷ []) (5 ∷ []) (4 ∷ []) ∷ []) is tests (true ∷ false ∷ [])
     -- "SHRINK: same rank, o_k + s'_k ≤ s_k."
     ∷ tests (fits SHRINK (5 ∷ []) (2 ∷ []) (3 ∷ []) ∷ fits SHRINK (5 ∷ []) (2 ∷ []) (4 ∷ []) ∷ []) is tests (true ∷ false ∷ [])
     -- "Binary and WHERE: right-aligned; each axis equal or 1; the larger wins."
-    ∷ tests (agree ADD (2 ∷ 3 ∷ []) (3 ∷ []) [] ∷ agree ADD (2 ∷ 3 ∷ []) (2 ∷ []) [] ∷ agree WHERE (3 ∷ []) (2 ∷ 1 ∷ []) (2 ∷ 3 ∷ []) ∷ agree WHERE (3 ∷ []) (2 ∷ 1 ∷ []) (2 ∷ []) ∷ [])
+    ∷ tests (agree ADD (2 ∷ 3 ∷ []) (3 ∷ []) [] ∷ agree ADD (2 ∷ 3 ∷ []) (2 ∷ []) [] ∷ agree WHERE (3 ∷ []) (2 ∷ 1 ∷ []) (2 ∷ 3 ∷ []) ∷ agree WHERE (3 ∷ []) (2 ∷ 1 ∷ []) (4 ∷ 3 ∷ []) ∷ [])
     is tests (true ∷ false ∷ true ∷ false ∷ [])
     ∷ result ADD [] (2 ∷ 1 ∷ []) (3 ∷ []) [] is numbers (2 ∷ 3 ∷ [])
     ∷ result WHERE [] (1 ∷ []) (3 ∷ []) (2 ∷ 1 ∷ []) is numbers (2 ∷ 3 ∷ [])
