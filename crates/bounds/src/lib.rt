@@ -1,1 +1,321 @@
-// Interval rules: the definitions stand in specs/.
+// Interval rules.
+ghost use mathlib.Core.Path.{_≡_};
+ghost use Prim.Native.Nat.{ℕ, _<_, _≤_};
+ghost use lib.IntN.{ℤ, pos, _*ℤ_};
+ghost use Rattle.laws.specs.Integers.{minZ, maxZ, min4, max4, floorDiv, floorMod};
+ghost use Rattle.laws.proofs.Machine.{Small};
+ghost use Rattle.plan.specs.Types.{between, holds, contains, rangeOf};
+ghost use Rattle.bounds.specs.Rules.{addBounds, mulBounds, maxBounds, minBounds, idivBounds, modBounds, whereBounds, cmpltBounds, cmpneBounds, reduceBounds};
+ghost use Rattle.bounds.specs.Narrow.{wideOf, Held, Narrow, Binary, Result};
+use plan::Interval;
+use plan::Node;
+
+// Bounds that lie in a type.
+pub struct Bounds {
+    pub low: i32,
+    pub high: i32,
+}
+
+fn least(a: i64, b: i64) -> i64
+    ensures { λ r. ⌜ r ≡ minZ a b ⌝ }
+{
+    if b < a { b } else { a }
+}
+
+fn greatest(a: i64, b: i64) -> i64
+    ensures { λ r. ⌜ r ≡ maxZ a b ⌝ }
+{
+    if a < b { b } else { a }
+}
+
+fn least4(a: i64, b: i64, c: i64, d: i64) -> i64
+    ensures { λ r. ⌜ r ≡ min4 a b c d ⌝ }
+{
+    least(least(a, b), least(c, d))
+}
+
+fn greatest4(a: i64, b: i64, c: i64, d: i64) -> i64
+    ensures { λ r. ⌜ r ≡ max4 a b c d ⌝ }
+{
+    greatest(greatest(a, b), greatest(c, d))
+}
+
+// The floor of a / b.
+pub fn floor_div(a: i64, b: i64) -> i64
+    requires { ⌜ (Small a) × (Small b) × (b ≡ pos 0 → ⊥) ⌝ }
+    ensures { λ r. ⌜ r ≡ floorDiv a b ⌝ }
+{
+    let q = a / b;
+    let r = a % b;
+    if r == 0 {
+        return q;
+    }
+    if r < 0 {
+        if b < 0 {
+            return q;
+        }
+        return q - 1;
+    }
+    if b < 0 {
+        return q - 1;
+    }
+    q
+}
+
+// What the floor leaves of a.
+pub fn floor_mod(a: i64, b: i64) -> i64
+    requires { ⌜ (Small a) × (Small b) × (b ≡ pos 0 → ⊥) ⌝ }
+    ensures { λ r. ⌜ r ≡ floorMod a b ⌝ }
+{
+    a - b * floor_div(a, b)
+}
+
+// The floor of a corner. An interval with 0 as an end is no divisor's; the definition's value at 0 stands for it.
+fn quotient(a: i64, b: i64) -> i64
+    requires { ⌜ (Small a) × (Small b) ⌝ }
+    ensures { λ r. ⌜ r ≡ floorDiv a b ⌝ }
+{
+    if b == 0 {
+        if a < 0 {
+            return -1;
+        }
+        return 0;
+    }
+    floor_div(a, b)
+}
+
+pub fn mul_bounds(x: Interval, y: Interval) -> Interval
+    requires { ⌜ (Held x) × (Held y) ⌝ }
+    ensures { λ r. ⌜ r ≡ mulBounds x y ⌝ }
+{
+    let p = x.low * y.low;
+    let q = x.low * y.high;
+    let r = x.high * y.low;
+    let s = x.high * y.high;
+    Interval {
+        low: least4(p, q, r, s),
+        high: greatest4(p, q, r, s),
+    }
+}
+
+pub fn idiv_bounds(x: Interval, y: Interval) -> Interval
+    requires { ⌜ (Held x) × (Held y) ⌝ }
+    ensures { λ r. ⌜ r ≡ idivBounds x y ⌝ }
+{
+    let al = x.low;
+    let ah = x.high;
+    let bl = y.low;
+    let bh = y.high;
+    let p = quotient(al, bl);
+    let q = quotient(al, bh);
+    let r = quotient(ah, bl);
+    let s = quotient(ah, bh);
+    Interval {
+        low: least4(p, q, r, s),
+        high: greatest4(p, q, r, s),
+    }
+}
+
+pub fn cmplt_bounds(x: Interval, y: Interval) -> Interval
+    ensures { λ r. ⌜ r ≡ cmpltBounds x y ⌝ }
+{
+    let a = x.low;
+    let aa = x.high;
+    let b = y.low;
+    let bb = y.high;
+    if aa < b {
+        return Interval { low: 1, high: 1 };
+    }
+    if bb <= a {
+        return Interval { low: 0, high: 0 };
+    }
+    Interval { low: 0, high: 1 }
+}
+
+pub fn mod_bounds(y: Interval) -> Interval
+    requires { ⌜ Held y ⌝ }
+    ensures { λ r. ⌜ r ≡ modBounds y ⌝ }
+{
+    let low = y.low;
+    let high = y.high;
+    if 0 < low {
+        return Interval {
+            low: 0,
+            high: high - 1,
+        };
+    }
+    Interval {
+        low: low + 1,
+        high: 0,
+    }
+}
+
+pub fn add_bounds(x: Interval, y: Interval) -> Interval
+    requires { ⌜ (Held x) × (Held y) ⌝ }
+    ensures { λ r. ⌜ r ≡ addBounds x y ⌝ }
+{
+    Interval {
+        low: x.low + y.low,
+        high: x.high + y.high,
+    }
+}
+
+pub fn max_bounds(x: Interval, y: Interval) -> Interval
+    ensures { λ r. ⌜ r ≡ maxBounds x y ⌝ }
+{
+    Interval {
+        low: greatest(x.low, y.low),
+        high: greatest(x.high, y.high),
+    }
+}
+
+pub fn min_bounds(x: Interval, y: Interval) -> Interval
+    ensures { λ r. ⌜ r ≡ minBounds x y ⌝ }
+{
+    Interval {
+        low: least(x.low, y.low),
+        high: least(x.high, y.high),
+    }
+}
+
+pub fn where_bounds(x: Interval, y: Interval) -> Interval
+    ensures { λ r. ⌜ r ≡ whereBounds x y ⌝ }
+{
+    Interval {
+        low: least(x.low, y.low),
+        high: greatest(x.high, y.high),
+    }
+}
+
+pub fn cmpne_bounds(x: Interval, y: Interval) -> Interval
+    ensures { λ r. ⌜ r ≡ cmpneBounds x y ⌝ }
+{
+    let a = x.low;
+    let aa = x.high;
+    let b = y.low;
+    let bb = y.high;
+    if (aa < b) | (bb < a) {
+        return Interval { low: 1, high: 1 };
+    }
+    if ((a <= aa) & (aa <= a)) & (((b <= bb) & (bb <= b)) & ((a <= b) & (b <= a))) {
+        return Interval { low: 0, high: 0 };
+    }
+    Interval { low: 0, high: 1 }
+}
+
+// n times an interval.
+pub fn sum_bounds(n: usize, x: Interval) -> Interval
+    requires { ⌜ (n ≤ 1048576) × (Held x) ⌝ }
+    ensures { λ r. ⌜ r ≡ between (pos n *ℤ x .low) (pos n *ℤ x .high) ⌝ }
+{
+    let k = n as i64;
+    Interval {
+        low: k * x.low,
+        high: k * x.high,
+    }
+}
+
+// Rule 10 asks whether a divisor's bounds hold 0.
+pub fn holds_zero(x: Interval) -> bool
+    ensures { λ r. ⌜ r ≡ holds x (pos 0) ⌝ }
+{
+    let low = x.low;
+    let high = x.high;
+    (low <= 0) & (0 <= high)
+}
+
+// Rule 11: bounds lie in a type.
+pub fn in_type(t: usize, x: Interval) -> bool
+    ensures { λ r. ⌜ r ≡ contains (rangeOf t) x ⌝ }
+{
+    let range = plan::type_range(t);
+    let from = range.low;
+    let to = range.high;
+    let low = x.low;
+    let high = x.high;
+    ((from <= low) & (low <= to)) & ((from <= high) & (high <= to))
+}
+
+pub fn wide(b: Bounds) -> Interval
+    ensures { λ r. ⌜ (r ≡ wideOf b) × (Held r) ⌝ }
+{
+    Interval {
+        low: b.low as i64,
+        high: b.high as i64,
+    }
+}
+
+pub fn narrow(x: Interval) -> Bounds
+    requires { ⌜ Narrow x ⌝ }
+    ensures { λ r. ⌜ wideOf r ≡ x ⌝ }
+{
+    let low = x.low;
+    let high = x.high;
+    Bounds {
+        low: low as i32,
+        high: high as i32,
+    }
+}
+
+// The bounds of a binary operation's result.
+fn binary_bounds(op: usize, a: Interval, b: Interval) -> Interval
+    requires { ⌜ (9 ≤ op) × (op < 18) × (Held a) × (Held b) ⌝ }
+    ensures { λ r. ⌜ Binary op a b r ⌝ }
+{
+    match op {
+        9 => add_bounds(a, b),
+        10 => mul_bounds(a, b),
+        11 => max_bounds(a, b),
+        12 => idiv_bounds(a, b),
+        13 => mod_bounds(b),
+        14 => cmplt_bounds(a, b),
+        15 => cmpne_bounds(a, b),
+        16 => min_bounds(a, b),
+        _ => max_bounds(a, b),
+    }
+}
+
+// The bounds of a REDUCE of n elements: 0 is their sum, else their greatest.
+fn reduce_bounds(number: i64, n: usize, a: Interval) -> Interval
+    requires { ⌜ (n ≤ 1048576) × (Held a) ⌝ }
+    ensures { λ r. ⌜ r ≡ reduceBounds number n a ⌝ }
+{
+    if plan::size_of_word(number) == 0 {
+        return sum_bounds(n, a);
+    }
+    a
+}
+
+// The bounds of a node's result, from its sources' bounds; n elements are gathered where it is a REDUCE.
+pub fn result_bounds(x: Node, n: usize, a: Interval, b: Interval, c: Interval) -> Interval
+    requires { ⌜ (x .op < 21) × (n ≤ 1048576) × (Held a) × (Held b) ⌝ }
+    ensures { λ r. ⌜ Result x n a b c r ⌝ }
+{
+    let op = x.op;
+    if op == 0 {
+        let v = x.number;
+        return Interval { low: v, high: v };
+    }
+    if op == 1 {
+        let low = x.low;
+        let high = x.high;
+        return Interval {
+            low: low,
+            high: high,
+        };
+    }
+    if op < 9 {
+        return a;
+    }
+    if op < 18 {
+        return binary_bounds(op, a, b);
+    }
+    if op == 18 {
+        return where_bounds(b, c);
+    }
+    if op == 19 {
+        let number = x.number;
+        return reduce_bounds(number, n, a);
+    }
+    a
+}
