@@ -704,13 +704,169 @@ def listings(count, seed):
         yield Case('listing', (data,), 'listing')
 
 
+# ---------------------------------------------------------- cases by hand
+# What random plans rarely meet. A wrong rule that the other groups let pass is why
+# each of these is here.
+
+def type_tables():
+    """Types that meet, and the ends of every type."""
+    for op in model.BINARY:
+        for first, second in ((0, 0), (0, 3), (3, 0)):
+            yield draft(op, {(1, 'dtype'): first, (2, 'dtype'): second})
+    for several in ((1, 3, 3), (0, 0, 3), (0, 3, 0), (0, 0, 0)):
+        yield draft(WHERE, {(k, 'dtype'): dtype for k, dtype in enumerate(several, 1)})
+    yield draft(REDUCE, {(1, 'dtype'): 0, 5: 1})
+    inside = []
+    for slot, (dtype, (low, high)) in enumerate(model.TYPE_LIMITS.items()):
+        yield from (const(dtype, low - 1), const(dtype, high + 1))
+        yield from (param(0, dtype, low - 1, high, ()), param(0, dtype, low, high + 1, ()))
+        inside += const(dtype, low) + const(dtype, high) + param(slot, dtype, low, high, ())
+    yield inside
+
+
+def device_tables():
+    """Devices at their ends, three that differ, and the one device from every place."""
+    for op in (PARAM, LOAD):
+        yield from (draft(op, DRAFTS[op][0], {6: device}) for device in (0, 1, 255, 256))
+    for place in (1, 2, 3):
+        yield draft(WHERE, {(1, 'dtype'): 0, (place, 'device'): 2})
+    two = param(0, 0, 0, 1, (), 1) + param(1, 0, 0, 1, (), 2) + const(0, 1)
+    yield from (two + apply(WHERE, *places) for places in ((2, 0, 1), (0, 2, 1)))
+    table = const(0, 1) + const(2, 5) + param(0, 0, 0, 1, (), 7) + param(1, 2, 0, 1, (), 7)
+    table += apply(ADD, 1, 3) + apply(ADD, 3, 1) + apply(ADD, 1, 1) + apply(WHERE, 0, 1, 3)
+    table += apply(WHERE, 0, 3, 1) + apply(WHERE, 2, 1, 1) + apply(WHERE, 0, 1, 1)
+    yield table + node(LOAD, {1: 1, 6: 255}) + node(LOAD, {1: 3, 6: 1})
+
+
+def interval_params(dtype, intervals):
+    return [w for k, ends in enumerate(intervals) for w in param(k, dtype, *ends, ())]
+
+
+def bound_tables():
+    """Bounds of every pair of some intervals, and divisors with and without 0."""
+    signs = ((-3, -1), (-2, 5), (1, 4), (0, 0), (-6, -4))
+    touching = ((0, 0), (1, 1), (0, 1), (1, 2), (2, 2))
+    for op, dtype, ends in ((ADD, 2, signs), (MUL, 2, signs), (MAX, 2, signs),
+                            (CMPLT, 2, touching), (CMPNE, 2, touching),
+                            (AND, 0, touching[:3]), (OR, 0, touching[:3])):
+        pairs = [apply(op, i, k) for i in range(len(ends)) for k in range(len(ends))]
+        yield interval_params(dtype, ends) + sum(pairs, [])
+    pairs = [apply(WHERE, 5, i, k) for i in range(5) for k in range(5)]
+    yield interval_params(2, signs) + const(0, 1) + sum(pairs, [])
+    divisors = ((1, 1), (1, 3), (2, 3), (-1, -1), (-3, -1), (-3, -2))
+    pairs = [apply(op, i, k) for op in (IDIV, MOD) for i in range(3) for k in range(3, 9)]
+    yield interval_params(2, ((-7, 7), (-7, -3), (2, 7)) + divisors) + sum(pairs, [])
+    for op in (IDIV, MOD):
+        for ends in ((-1, 0), (0, 0), (0, 1), (-1, 1)):
+            yield interval_params(2, ((-7, 7), ends)) + apply(op, 0, 1)
+    flags = [(number, row_a) for number in (0, 1) for row_a in ((0, 0), (0, 1), (1, 0), (1, 1))]
+    yield param(0, 2, -4, 10, (2, 3)) + sum((reduce_node(0, *several) for several in flags), [])
+
+
+def place_tables():
+    """Sources not earlier, offsets at their limit, and three shapes that meet."""
+    for op, word in ((WHERE, 1), (WHERE, 2), (ADD, 1)):
+        base = draft(op, DRAFTS[op][0])
+        yield from (draft(op, DRAFTS[op][0], {word: v}) for v in (len(base) // 17 - 1, -1))
+    for op in (PAD, SHRINK):
+        yield from (draft(op, DRAFTS[op][0], {13: offset}) for offset in (LARGE, LARGE + 1))
+    for several in (((1, 3), (2, 3), (3, 3)), ((1, 1), (2, 1), (3, 1)), ((2, 1, 1), (3, 1), (4,)),
+                    ((2, 3), (1,), (3, 3))):
+        shapes = {(k, 'extents'): shape for k, shape in enumerate(several, 1)}
+        yield draft(WHERE, {(1, 'dtype'): 0}, shapes)
+
+
+def hand_checks():
+    for tables in (type_tables(), device_tables(), bound_tables(), place_tables()):
+        for table in tables:
+            yield Case('check', (table, 8 * (len(table) // 17)), 'check by hand')
+    over = large(*[(LARGE,)] * 4) + const(0, 1)
+    for table in ([0], node(21), const(0, 2), over):
+        yield Case('check', (table, 0), 'refused before 14')
+        yield Case('run', (table, [1], [], 0, 0), 'refused before 13 and 14')
+
+
+def hand_run(table, inputs):
+    """A run with exact rooms; None is a gap, over a number that no limits hold."""
+    values = [BIG - 1 if value is None else value for value in inputs]
+    flags = [int(value is not None) for value in inputs]
+    total = sum(prod(record.extents) for record in model.verdict(table)[1])
+    return Case('run', (table, values, flags, total, total), 'run by hand')
+
+
+def elementwise_runs():
+    """Known numbers of both signs and gaps, each with each."""
+    table = param(0, 2, -7, 7, (7,)) + param(1, 2, 1, 3, (2, 1)) + param(2, 2, -3, -1, (2, 1))
+    table += sum((apply(op, 0, divisor) for op in (IDIV, MOD) for divisor in (1, 2)), [])
+    yield hand_run(table, [-7, -6, -1, 0, 1, 6, 7, 2, 3, -2, -3])
+    table = param(0, 2, -4, 9, (3,)) + param(1, 2, -4, 9, (3, 1))
+    table += sum((apply(op, 0, 1) for op in (ADD, MUL, MAX, CMPLT, CMPNE)), [])
+    yield hand_run(table, [-2, 3, None, 3, None, -2])
+    table = param(0, 0, 0, 1, (3,)) + param(1, 0, 0, 1, (3, 1))
+    yield hand_run(table + sum((apply(op, 0, 1) for op in (AND, OR, CMPNE)), []),
+                   [0, 1, None, 0, 1, None])
+    table = param(0, 0, 0, 1, (3, 1, 1)) + param(1, 2, -9, 9, (2, 1)) + param(2, 2, -9, 9, (2,))
+    yield hand_run(table + apply(WHERE, 0, 1, 2), [0, 1, None, 5, None, -6, None])
+    table = large((2, 3), (3,), (2, 1), ())
+    pairs = ((0, 1), (1, 0), (0, 2), (2, 1), (3, 0), (1, 3))
+    yield hand_run(table + sum((apply(ADD, *pair) for pair in pairs), []), [0, 1, 1, 0] * 3)
+    table = param(0, 3, 1, 9, (2, 1, 3, 1)) + param(1, 3, 1, 9, (2, 1, 2))
+    yield hand_run(table + apply(MUL, 0, 1) + apply(MUL, 1, 0), [1, 2, 3, 4, 5, 6, 1, 5, 7, 9])
+    table = param(0, 2, -9, 9, (2, 3))
+    table += sum((reduce_node(0, number, flags) for number in (0, 1)
+                  for flags in ((0, 0), (0, 1), (1, 0), (1, 1))), [])
+    yield hand_run(table, [1, -5, 3, -4, 7, 2])
+    yield hand_run(table, [1, -5, 3, None, 7, 2])
+
+
+def movement_runs():
+    """Each movement in several ways from one source."""
+    turns = ((0, 2, 1), (1, 0, 2), (1, 2, 0), (2, 0, 1), (2, 1, 0))
+    table = param(0, 2, -12, 12, (2, 3, 4)) + sum((move(PERMUTE, 0, t) for t in turns), [])
+    yield hand_run(table, list(range(-12, 12)))
+    offsets = ((1, 2), (0, 0), (2, 3), (2, 0))
+    table = param(0, 2, 0, 9, (2, 2)) + sum((move(PAD, 0, (4, 5), o) for o in offsets), [])
+    yield hand_run(table, [1, None, 3, 4])
+    offsets = ((0, 0), (0, 2), (1, 1), (1, 2))
+    table = param(0, 2, 0, 12, (3, 4)) + sum((move(SHRINK, 0, (2, 2), o) for o in offsets), [])
+    yield hand_run(table, [*range(1, 12), None])
+    flags = ((0, 1), (1, 0), (1, 1))
+    table = param(0, 2, 0, 9, (2, 3)) + sum((move(FLIP, 0, f) for f in flags), [])
+    yield hand_run(table, [1, 2, 3, None, 5, 6])
+    table = param(0, 2, 0, 9, (1, 3)) + param(1, 2, 0, 9, (2, 1)) + move(EXPAND, 0, (2, 3))
+    table += move(EXPAND, 1, (2, 3)) + move(RESHAPE, 3, (3, 2)) + node(CAST, {1: 4, 4: 3})
+    yield hand_run(table + node(LOAD, {1: 5, 6: 9}), [1, None, 3, 4, 5])
+
+
+def hand_lookups():
+    for turn in ((1, 2, 3, 0), (3, 0, 1, 2), (1, 3, 0, 2), (2, 0, 3, 1)):
+        table = large((2, 3, 1, 4)) + move(PERMUTE, 0, turn)
+        yield from (Case('lookup', (table, 1, e), 'lookup by hand') for e in (5, 14))
+    table = large((2, 2)) + move(PAD, 0, (4, 5), (1, 1))
+    for element in (1, 5, 6, 8, 12, 16):
+        yield Case('lookup', (table, 1, element), 'lookup by hand')
+    table = large((2, 3)) + move(FLIP, 0, (1, 0)) + node(CAST, {1: 1, 4: 3})
+    for place in ((0, 5), (0, 6), (1, 5), (1, 6), (2, 5), (2, 6), (3, 0), (3, 6)):
+        yield Case('lookup', (table, *place), 'lookup by hand')
+
+
+def hand_cases(count, seed):
+    rng = Random(f'by hand {seed}')
+    table = []
+    for op in range(21):
+        table += node(op, {w: (7 * op + w) * (-1) ** w for w in model.USED_WORDS[op]})
+    several = [Case('unpack', (pack(table), len(table)), 'every operation'), *hand_checks(),
+               *elementwise_runs(), *movement_runs(), *hand_lookups()]
+    yield from chosen(rng, several, count, lambda case: case.call)
+
+
 GROUPS = {
     'valid plans': (valid_plans, 210), 'near misses': (near_misses, 150),
-    'rule pairs': (rule_pairs, 150), 'edge words': (edge_words, 120),
+    'rule pairs': (rule_pairs, 150), 'edge words': (edge_words, 95),
     'intervals': (interval_cases, 96), 'limits': (limit_cases, 110),
     'buffers': (buffer_cases, 65), 'run inputs': (run_inputs, 100),
     'packed bytes': (packed_bytes, 190), 'packed plans': (packed_plans, 20),
-    'lookups': (lookups, 108), 'listings': (listings, 30),
+    'lookups': (lookups, 108), 'listings': (listings, 30), 'by hand': (hand_cases, 150),
 }
 
 

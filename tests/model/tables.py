@@ -149,10 +149,11 @@ def is_large(case):
 def dealt(cases):
     """About 50 cases a table and at most one large one: a theorem has 50 million steps."""
     small = [case for case in cases if not is_large(case)]
+    large = [case for case in cases if is_large(case)]
     tables = [small[k:k + CASES_PER_TABLE] for k in range(0, len(small), CASES_PER_TABLE)]
-    for table, case in zip(tables, filter(is_large, cases), strict=False):
+    tables += [[] for _ in large[len(tables):]]
+    for table, case in zip(tables, large):
         table.append(case)
-    assert sum(map(len, tables)) == len(cases)
     return tables
 
 

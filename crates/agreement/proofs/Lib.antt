@@ -27,3 +27,5 @@ pub mod Table25
 pub mod Table26
 pub mod Table27
 pub mod Table28
+pub mod Table29
+pub mod Table30

@@ -6,58 +6,8 @@ use Rattle.agreement.specs.Cases.{words, nodes, times, freshFrom, flagsF
 
 abbrev pub table21 : List Case
 table21 =
-    -- inputs (15,) at [1] and 14
-    toRun (nodes ((2 ∷ 0 ∷ 0 ∷ 0 ∷ 4 ∷ 0 ∷ 2 ∷ 2 ∷ 2 ∷ 4 ∷ 2 ∷ []) ∷ (2 ∷ 0 ∷ 0 ∷ 0 ∷ 6 ∷ 2 ∷ 14 ∷ 2 ∷ 2 ∷ 2 ∷ []) ∷ (2 ∷ 0 ∷ 0 ∷ 0 ∷ 6 ∷ 4 ∷ 2 ∷ 5 ∷ 1 ∷ 2 ∷ 2 ∷ []) ∷ (2 ∷ 0 ∷ 0 ∷ 0 ∷ 6 ∷ 6 ∷ 2 ∷ 0 ∷ 2 ∷ 4 ∷ 2 ∷ []) ∷ (0 ∷ 0 ∷ 0 ∷ 0 ∷ 6 ∷ 4294967295 ∷ []) ∷ (22 ∷ []) ∷ (24 ∷ 10 ∷ 10 ∷ []) ∷ (12 ∷ 0 ∷ 0 ∷ 0 ∷ 0 ∷ 0 ∷ 0 ∷ 0 ∷ 0 ∷ 8 ∷ 4 ∷ 0 ∷ 0 ∷ 2 ∷ 2 ∷ []) ∷ (12 ∷ 10 ∷ 0 ∷ 0 ∷ 0 ∷ 0 ∷ 0 ∷ 0 ∷ 0 ∷ 6 ∷ 4 ∷ 0 ∷ 0 ∷ 2 ∷ 2 ∷ []) ∷ [])) (words (2 ∷ 2 ∷ 2 ∷ 5 ∷ 6 ∷ 2 ∷ [])) (1 ∷ 2 ∷ 1 ∷ 1 ∷ 0 ∷ 1 ∷ []) 25 24 gives leavesBoth (answer 14 0 0) (freshFrom 0 25) (flagsFrom 0 24)
-    -- inputs (16,) at [4]
-    ∷ toRun (nodes ((2 ∷ 0 ∷ 0 ∷ 0 ∷ 4 ∷ 0 ∷ 2 ∷ 9 ∷ 3 ∷ 6 ∷ 2 ∷ 4 ∷ 2 ∷ []) ∷ (2 ∷ 0 ∷ 0 ∷ 0 ∷ 0 ∷ 2 ∷ 510 ∷ 0 ∷ 2 ∷ 6 ∷ 6 ∷ 4 ∷ 2 ∷ []) ∷ (16 ∷ 0 ∷ 0 ∷ 0 ∷ 4 ∷ []) ∷ (38 ∷ 0 ∷ 0 ∷ 0 ∷ 0 ∷ 2 ∷ 0 ∷ 0 ∷ 0 ∷ 2 ∷ []) ∷ [])) (words (3 ∷ 5 ∷ 3 ∷ 3 ∷ 1 ∷ 3 ∷ 2 ∷ 2 ∷ 65533 ∷ 2 ∷ 4294967297 ∷ 2 ∷ 0 ∷ 0 ∷ 2 ∷ 2 ∷ 0 ∷ 2 ∷ 2 ∷ 0 ∷ 0 ∷ 4294967294 ∷ 2 ∷ 2097152 ∷ [])) (1 ∷ 1 ∷ 1 ∷ 1 ∷ 1 ∷ 1 ∷ 1 ∷ 1 ∷ 0 ∷ 1 ∷ 0 ∷ 1 ∷ 1 ∷ 1 ∷ 1 ∷ 1 ∷ 1 ∷ 1 ∷ 1 ∷ 1 ∷ 1 ∷ 0 ∷ 1 ∷ 0 ∷ []) 32 32 gives leavesBoth (answer 16 4 0) (freshFrom 0 32) (flagsFrom 0 32)
-    -- inputs ('both',) at [4] and 13
-    ∷ toRun (nodes ((2 ∷ 0 ∷ 0 ∷ 0 ∷ 4 ∷ 0 ∷ 2 ∷ 5 ∷ 1 ∷ 2 ∷ 4 ∷ []) ∷ (2 ∷ 0 ∷ 0 ∷ 0 ∷ 4 ∷ 2 ∷ 2 ∷ 2 ∷ 2 ∷ 2 ∷ 2 ∷ []) ∷ (2 ∷ 0 ∷ 0 ∷ 0 ∷ 4 ∷ 4 ∷ 510 ∷ 5 ∷ 1 ∷ 2 ∷ 2 ∷ []) ∷ (2 ∷ 0 ∷ 0 ∷ 0 ∷ 4 ∷ 6 ∷ 2 ∷ 2 ∷ 6 ∷ 2 ∷ 4 ∷ []) ∷ (4 ∷ 6 ∷ 0 ∷ 0 ∷ 0 ∷ 0 ∷ 0 ∷ 0 ∷ 0 ∷ 2 ∷ []) ∷ (2 ∷ 0 ∷ 0 ∷ 0 ∷ 2 ∷ 8 ∷ 2 ∷ 2 ∷ 2 ∷ 2 ∷ 4 ∷ []) ∷ (30 ∷ 10 ∷ 10 ∷ []) ∷ (4 ∷ 10 ∷ 0 ∷ 0 ∷ 0 ∷ 0 ∷ 0 ∷ 0 ∷ 0 ∷ 2 ∷ []) ∷ (12 ∷ 10 ∷ 0 ∷ 0 ∷ 0 ∷ 0 ∷ 0 ∷ 0 ∷ 0 ∷ 4 ∷ 8 ∷ 0 ∷ 0 ∷ 0 ∷ 2 ∷ []) ∷ [])) (words (5 ∷ 2 ∷ 30 ∷ 18446744073709551614 ∷ 6 ∷ 2 ∷ 2 ∷ [])) (1 ∷ 1 ∷ 1 ∷ 0 ∷ 254 ∷ 1 ∷ 1 ∷ 1 ∷ []) 22 22 gives leavesBoth (answer 13 0 0) (freshFrom 0 22) (flagsFrom 0 22)
-    -- inputs ('gap',) at [6]
-    ∷ toRun (nodes ((2 ∷ 0 ∷ 0 ∷ 0 ∷ 4 ∷ 0 ∷ 2 ∷ 1 ∷ 0 ∷ 6 ∷ []) ∷ (2 ∷ 0 ∷ 0 ∷ 0 ∷ 4 ∷ 2 ∷ 2 ∷ 0 ∷ 10 ∷ 2 ∷ []) ∷ (2 ∷ 0 ∷ 0 ∷ 0 ∷ 4 ∷ 4 ∷ 2 ∷ 8 ∷ 18 ∷ []) ∷ (2 ∷ 0 ∷ 0 ∷ 0 ∷ 2 ∷ 6 ∷ 2 ∷ 0 ∷ 0 ∷ 6 ∷ []) ∷ (28 ∷ []) ∷ (40 ∷ 8 ∷ 0 ∷ 0 ∷ 0 ∷ 0 ∷ 4 ∷ []) ∷ (2 ∷ 0 ∷ 0 ∷ 0 ∷ 2 ∷ 8 ∷ 2 ∷ 4 ∷ 4 ∷ 6 ∷ []) ∷ (0 ∷ 0 ∷ 0 ∷ 0 ∷ 6 ∷ 4294967294 ∷ []) ∷ [])) (words (1 ∷ 1 ∷ 1 ∷ 10 ∷ 8 ∷ 508 ∷ 18446744073709551615 ∷ 0 ∷ 4 ∷ 4 ∷ 4 ∷ [])) (1 ∷ 1 ∷ 1 ∷ 1 ∷ 1 ∷ 0 ∷ 0 ∷ 1 ∷ 1 ∷ 1 ∷ 1 ∷ []) 18 18 gives leavesBoth (answer 0 0 0) (words (1 ∷ 1 ∷ 1 ∷ 10 ∷ 8 ∷ 0 ∷ 0 ∷ 0 ∷ 0 ∷ 0 ∷ 0 ∷ 0 ∷ 0 ∷ 0 ∷ 4 ∷ 4 ∷ 4 ∷ 4294967294 ∷ [])) (1 ∷ 1 ∷ 1 ∷ 1 ∷ 1 ∷ 0 ∷ 0 ∷ 1 ∷ 1 ∷ 1 ∷ 1 ∷ 1 ∷ 1 ∷ 1 ∷ 1 ∷ 1 ∷ 1 ∷ 1 ∷ [])
-    -- order of refusals
-    ∷ toUnpack [] 0 gives leaves (answer 20 0 0) []
-    -- order of refusals
-    ∷ toUnpack (128 ∷ 0 ∷ []) 0 gives leaves (answer 21 0 0) []
-    -- order of refusals
-    ∷ toUnpack (128 ∷ []) 0 gives leaves (answer 20 0 0) []
-    -- order of refusals
-    ∷ toUnpack (0 ∷ []) 0 gives leaves (answer 23 0 0) []
-    -- order of refusals
-    ∷ toUnpack (129 ∷ 2 ∷ []) 0 gives leaves (answer 23 0 0) []
-    -- order of refusals
-    ∷ toUnpack (1 ∷ []) 0 gives leaves (answer 14 0 0) []
-    -- order of refusals
-    ∷ toUnpack (1 ∷ 21 ∷ []) 16 gives leaves (answer 14 0 0) (freshFrom 0 16)
-    -- order of refusals
-    ∷ toUnpack (1 ∷ 21 ∷ []) 17 gives leaves (answer 24 1 0) (freshFrom 0 17)
-    -- order of refusals
-    ∷ toUnpack (1 ∷ 128 ∷ 0 ∷ []) 16 gives leaves (answer 14 0 0) (freshFrom 0 16)
-    -- order of refusals
-    ∷ toUnpack (1 ∷ 149 ∷ []) 17 gives leaves (answer 20 1 0) (freshFrom 0 17)
-    -- order of refusals
-    ∷ toUnpack (1 ∷ 149 ∷ 0 ∷ []) 17 gives leaves (answer 21 1 0) (freshFrom 0 17)
-    -- order of refusals
-    ∷ toUnpack (1 ∷ 21 ∷ 128 ∷ 128 ∷ 128 ∷ []) 17 gives leaves (answer 24 1 0) (freshFrom 0 17)
-    -- order of refusals
-    ∷ toUnpack (1 ∷ 0 ∷ 4 ∷ 10 ∷ 21 ∷ []) 16 gives leaves (answer 14 0 0) (freshFrom 0 16)
-    -- order of refusals
-    ∷ toUnpack (1 ∷ 0 ∷ 4 ∷ 10 ∷ 21 ∷ []) 17 gives leaves (answer 22 4 0) (freshFrom 0 17)
-    -- order of refusals
-    ∷ toUnpack (2 ∷ 0 ∷ 4 ∷ 10 ∷ 21 ∷ []) 33 gives leaves (answer 14 0 0) (freshFrom 0 33)
-    -- order of refusals
-    ∷ toUnpack (2 ∷ 0 ∷ 4 ∷ 10 ∷ 21 ∷ []) 34 gives leaves (answer 24 4 0) (freshFrom 0 34)
-    -- order of refusals
-    ∷ toUnpack (2 ∷ 0 ∷ 4 ∷ 10 ∷ 21 ∷ 128 ∷ 0 ∷ []) 34 gives leaves (answer 24 4 0) (freshFrom 0 34)
-    -- order of refusals
-    ∷ toUnpack (2 ∷ 0 ∷ 128 ∷ 0 ∷ 0 ∷ 10 ∷ 21 ∷ []) 34 gives leaves (answer 21 2 0) (freshFrom 0 34)
-    -- order of refusals
-    ∷ toUnpack (128 ∷ 2 ∷ []) 4351 gives leaves (answer 14 0 0) (freshFrom 0 4351)
-    -- order of refusals
-    ∷ toUnpack (128 ∷ 2 ∷ []) 4352 gives leaves (answer 20 2 0) (freshFrom 0 4352)
-    -- order of refusals
-    ∷ toUnpack (128 ∷ 2 ∷ 128 ∷ 0 ∷ []) 4352 gives leaves (answer 21 2 0) (freshFrom 0 4352)
     -- fixed bytes
-    ∷ toUnpack [] 204 gives leaves (answer 20 0 0) (freshFrom 0 204)
+    toUnpack [] 204 gives leaves (answer 20 0 0) (freshFrom 0 204)
     -- fixed bytes
     ∷ toUnpack (0 ∷ []) 204 gives leaves (answer 23 0 0) (freshFrom 0 204)
     -- fixed bytes
@@ -106,6 +56,56 @@ table21 =
     ∷ toUnpack (1 ∷ 128 ∷ 0 ∷ []) 204 gives leaves (answer 21 1 0) (freshFrom 0 204)
     -- fixed bytes
     ∷ toUnpackCheck (0 ∷ 130 ∷ 0 ∷ []) gives number 1507328
+    -- fixed bytes
+    ∷ toUnpack (2 ∷ 0 ∷ 4 ∷ 10 ∷ 128 ∷ 0 ∷ []) 204 gives leaves (answer 21 4 0) (freshFrom 0 204)
+    -- fixed bytes
+    ∷ toUnpack (1 ∷ 0 ∷ 4 ∷ 10 ∷ 21 ∷ []) 16 gives leaves (answer 14 0 0) (freshFrom 0 16)
+    -- fixed bytes
+    ∷ toUnpack (2 ∷ 0 ∷ 4 ∷ 10 ∷ 1 ∷ 0 ∷ []) 16 gives leaves (answer 14 0 0) (freshFrom 0 16)
+    -- fixed bytes
+    ∷ toUnpack (129 ∷ 2 ∷ 255 ∷ 255 ∷ 255 ∷ 255 ∷ 255 ∷ []) 204 gives leaves (answer 23 0 0) (freshFrom 0 204)
+    -- fixed bytes
+    ∷ toUnpack (129 ∷ 128 ∷ 0 ∷ []) 204 gives leaves (answer 21 0 0) (freshFrom 0 204)
+    -- cut at 0
+    ∷ toUnpack [] 204 gives leaves (answer 20 0 0) (freshFrom 0 204)
+    -- cut at 1
+    ∷ toUnpack (3 ∷ []) 204 gives leaves (answer 20 1 0) (freshFrom 0 204)
+    -- cut at 2
+    ∷ toUnpack (3 ∷ 1 ∷ []) 204 gives leaves (answer 20 2 0) (freshFrom 0 204)
+    -- cut at 3
+    ∷ toUnpack (3 ∷ 1 ∷ 6 ∷ []) 16 gives leaves (answer 14 0 0) (freshFrom 0 16)
+    -- cut at 4
+    ∷ toUnpackCheck (3 ∷ 1 ∷ 6 ∷ 0 ∷ []) gives number 1310724
+    -- cut at 5
+    ∷ toUnpack (3 ∷ 1 ∷ 6 ∷ 0 ∷ 2 ∷ []) 204 gives leaves (answer 20 5 0) (freshFrom 0 204)
+    -- cut at 6
+    ∷ toUnpackCheck (3 ∷ 1 ∷ 6 ∷ 0 ∷ 2 ∷ 0 ∷ []) gives number 1310726
+    -- cut at 7
+    ∷ toUnpack (3 ∷ 1 ∷ 6 ∷ 0 ∷ 2 ∷ 0 ∷ 2 ∷ []) 204 gives leaves (answer 20 7 0) (freshFrom 0 204)
+    -- cut at 8
+    ∷ toUnpack (3 ∷ 1 ∷ 6 ∷ 0 ∷ 2 ∷ 0 ∷ 2 ∷ 4 ∷ []) 204 gives leaves (answer 20 8 0) (freshFrom 0 204)
+    -- cut at 9
+    ∷ toUnpackCheck (3 ∷ 1 ∷ 6 ∷ 0 ∷ 2 ∷ 0 ∷ 2 ∷ 4 ∷ 216 ∷ []) gives number 1310728
+    -- cut at 10
+    ∷ toUnpack (3 ∷ 1 ∷ 6 ∷ 0 ∷ 2 ∷ 0 ∷ 2 ∷ 4 ∷ 216 ∷ 4 ∷ []) 204 gives leaves (answer 20 10 0) (freshFrom 0 204)
+    -- cut at 11
+    ∷ toUnpack (3 ∷ 1 ∷ 6 ∷ 0 ∷ 2 ∷ 0 ∷ 2 ∷ 4 ∷ 216 ∷ 4 ∷ 0 ∷ []) 0 gives leaves (answer 14 0 0) []
+    -- cut at 12
+    ∷ toUnpack (3 ∷ 1 ∷ 6 ∷ 0 ∷ 2 ∷ 0 ∷ 2 ∷ 4 ∷ 216 ∷ 4 ∷ 0 ∷ 0 ∷ []) 204 gives leaves (answer 20 12 0) (freshFrom 0 204)
+    -- cut at 13
+    ∷ toUnpackCheck (3 ∷ 1 ∷ 6 ∷ 0 ∷ 2 ∷ 0 ∷ 2 ∷ 4 ∷ 216 ∷ 4 ∷ 0 ∷ 0 ∷ 3 ∷ []) gives number 1310733
+    -- cut at 14
+    ∷ toUnpack (3 ∷ 1 ∷ 6 ∷ 0 ∷ 2 ∷ 0 ∷ 2 ∷ 4 ∷ 216 ∷ 4 ∷ 0 ∷ 0 ∷ 3 ∷ 0 ∷ []) 204 gives leaves (answer 20 14 0) (freshFrom 0 204)
+    -- cut at 15
+    ∷ toUnpack (3 ∷ 1 ∷ 6 ∷ 0 ∷ 2 ∷ 0 ∷ 2 ∷ 4 ∷ 216 ∷ 4 ∷ 0 ∷ 0 ∷ 3 ∷ 0 ∷ 2 ∷ []) 204 gives leaves (answer 20 15 0) (freshFrom 0 204)
+    -- cut at 16
+    ∷ toUnpackCheck (3 ∷ 1 ∷ 6 ∷ 0 ∷ 2 ∷ 0 ∷ 2 ∷ 4 ∷ 216 ∷ 4 ∷ 0 ∷ 0 ∷ 3 ∷ 0 ∷ 2 ∷ 2 ∷ []) gives number 1310736
+    -- cut at 17
+    ∷ toUnpackCheck (3 ∷ 1 ∷ 6 ∷ 0 ∷ 2 ∷ 0 ∷ 2 ∷ 4 ∷ 216 ∷ 4 ∷ 0 ∷ 0 ∷ 3 ∷ 0 ∷ 2 ∷ 2 ∷ 0 ∷ []) gives number 1310737
+    -- cut at 18
+    ∷ toUnpack (3 ∷ 1 ∷ 6 ∷ 0 ∷ 2 ∷ 0 ∷ 2 ∷ 4 ∷ 216 ∷ 4 ∷ 0 ∷ 0 ∷ 3 ∷ 0 ∷ 2 ∷ 2 ∷ 0 ∷ 0 ∷ []) 0 gives leaves (answer 14 0 0) []
+    -- cut at 19
+    ∷ toUnpack (3 ∷ 1 ∷ 6 ∷ 0 ∷ 2 ∷ 0 ∷ 2 ∷ 4 ∷ 216 ∷ 4 ∷ 0 ∷ 0 ∷ 3 ∷ 0 ∷ 2 ∷ 2 ∷ 0 ∷ 0 ∷ 0 ∷ []) 204 gives leaves (answer 20 19 0) (freshFrom 0 204)
     ∷ []
 
 pub table21-agrees : Agree table21

@@ -6,58 +6,8 @@ use Rattle.agreement.specs.Cases.{words, nodes, times, freshFrom, flagsF
 
 abbrev pub table22 : List Case
 table22 =
-    -- fixed bytes
-    toUnpack (2 ∷ 0 ∷ 4 ∷ 10 ∷ 128 ∷ 0 ∷ []) 204 gives leaves (answer 21 4 0) (freshFrom 0 204)
-    -- fixed bytes
-    ∷ toUnpack (1 ∷ 0 ∷ 4 ∷ 10 ∷ 21 ∷ []) 16 gives leaves (answer 14 0 0) (freshFrom 0 16)
-    -- fixed bytes
-    ∷ toUnpack (2 ∷ 0 ∷ 4 ∷ 10 ∷ 1 ∷ 0 ∷ []) 16 gives leaves (answer 14 0 0) (freshFrom 0 16)
-    -- fixed bytes
-    ∷ toUnpack (129 ∷ 2 ∷ 255 ∷ 255 ∷ 255 ∷ 255 ∷ 255 ∷ []) 204 gives leaves (answer 23 0 0) (freshFrom 0 204)
-    -- fixed bytes
-    ∷ toUnpack (129 ∷ 128 ∷ 0 ∷ []) 204 gives leaves (answer 21 0 0) (freshFrom 0 204)
-    -- cut at 0
-    ∷ toUnpack [] 204 gives leaves (answer 20 0 0) (freshFrom 0 204)
-    -- cut at 1
-    ∷ toUnpack (3 ∷ []) 204 gives leaves (answer 20 1 0) (freshFrom 0 204)
-    -- cut at 2
-    ∷ toUnpack (3 ∷ 1 ∷ []) 204 gives leaves (answer 20 2 0) (freshFrom 0 204)
-    -- cut at 3
-    ∷ toUnpack (3 ∷ 1 ∷ 6 ∷ []) 16 gives leaves (answer 14 0 0) (freshFrom 0 16)
-    -- cut at 4
-    ∷ toUnpackCheck (3 ∷ 1 ∷ 6 ∷ 0 ∷ []) gives number 1310724
-    -- cut at 5
-    ∷ toUnpack (3 ∷ 1 ∷ 6 ∷ 0 ∷ 2 ∷ []) 204 gives leaves (answer 20 5 0) (freshFrom 0 204)
-    -- cut at 6
-    ∷ toUnpackCheck (3 ∷ 1 ∷ 6 ∷ 0 ∷ 2 ∷ 0 ∷ []) gives number 1310726
-    -- cut at 7
-    ∷ toUnpack (3 ∷ 1 ∷ 6 ∷ 0 ∷ 2 ∷ 0 ∷ 2 ∷ []) 204 gives leaves (answer 20 7 0) (freshFrom 0 204)
-    -- cut at 8
-    ∷ toUnpack (3 ∷ 1 ∷ 6 ∷ 0 ∷ 2 ∷ 0 ∷ 2 ∷ 4 ∷ []) 204 gives leaves (answer 20 8 0) (freshFrom 0 204)
-    -- cut at 9
-    ∷ toUnpackCheck (3 ∷ 1 ∷ 6 ∷ 0 ∷ 2 ∷ 0 ∷ 2 ∷ 4 ∷ 216 ∷ []) gives number 1310728
-    -- cut at 10
-    ∷ toUnpack (3 ∷ 1 ∷ 6 ∷ 0 ∷ 2 ∷ 0 ∷ 2 ∷ 4 ∷ 216 ∷ 4 ∷ []) 204 gives leaves (answer 20 10 0) (freshFrom 0 204)
-    -- cut at 11
-    ∷ toUnpack (3 ∷ 1 ∷ 6 ∷ 0 ∷ 2 ∷ 0 ∷ 2 ∷ 4 ∷ 216 ∷ 4 ∷ 0 ∷ []) 0 gives leaves (answer 14 0 0) []
-    -- cut at 12
-    ∷ toUnpack (3 ∷ 1 ∷ 6 ∷ 0 ∷ 2 ∷ 0 ∷ 2 ∷ 4 ∷ 216 ∷ 4 ∷ 0 ∷ 0 ∷ []) 204 gives leaves (answer 20 12 0) (freshFrom 0 204)
-    -- cut at 13
-    ∷ toUnpackCheck (3 ∷ 1 ∷ 6 ∷ 0 ∷ 2 ∷ 0 ∷ 2 ∷ 4 ∷ 216 ∷ 4 ∷ 0 ∷ 0 ∷ 3 ∷ []) gives number 1310733
-    -- cut at 14
-    ∷ toUnpack (3 ∷ 1 ∷ 6 ∷ 0 ∷ 2 ∷ 0 ∷ 2 ∷ 4 ∷ 216 ∷ 4 ∷ 0 ∷ 0 ∷ 3 ∷ 0 ∷ []) 204 gives leaves (answer 20 14 0) (freshFrom 0 204)
-    -- cut at 15
-    ∷ toUnpack (3 ∷ 1 ∷ 6 ∷ 0 ∷ 2 ∷ 0 ∷ 2 ∷ 4 ∷ 216 ∷ 4 ∷ 0 ∷ 0 ∷ 3 ∷ 0 ∷ 2 ∷ []) 204 gives leaves (answer 20 15 0) (freshFrom 0 204)
-    -- cut at 16
-    ∷ toUnpackCheck (3 ∷ 1 ∷ 6 ∷ 0 ∷ 2 ∷ 0 ∷ 2 ∷ 4 ∷ 216 ∷ 4 ∷ 0 ∷ 0 ∷ 3 ∷ 0 ∷ 2 ∷ 2 ∷ []) gives number 1310736
-    -- cut at 17
-    ∷ toUnpackCheck (3 ∷ 1 ∷ 6 ∷ 0 ∷ 2 ∷ 0 ∷ 2 ∷ 4 ∷ 216 ∷ 4 ∷ 0 ∷ 0 ∷ 3 ∷ 0 ∷ 2 ∷ 2 ∷ 0 ∷ []) gives number 1310737
-    -- cut at 18
-    ∷ toUnpack (3 ∷ 1 ∷ 6 ∷ 0 ∷ 2 ∷ 0 ∷ 2 ∷ 4 ∷ 216 ∷ 4 ∷ 0 ∷ 0 ∷ 3 ∷ 0 ∷ 2 ∷ 2 ∷ 0 ∷ 0 ∷ []) 0 gives leaves (answer 14 0 0) []
-    -- cut at 19
-    ∷ toUnpack (3 ∷ 1 ∷ 6 ∷ 0 ∷ 2 ∷ 0 ∷ 2 ∷ 4 ∷ 216 ∷ 4 ∷ 0 ∷ 0 ∷ 3 ∷ 0 ∷ 2 ∷ 2 ∷ 0 ∷ 0 ∷ 0 ∷ []) 204 gives leaves (answer 20 19 0) (freshFrom 0 204)
     -- cut at 20
-    ∷ toUnpack (3 ∷ 1 ∷ 6 ∷ 0 ∷ 2 ∷ 0 ∷ 2 ∷ 4 ∷ 216 ∷ 4 ∷ 0 ∷ 0 ∷ 3 ∷ 0 ∷ 2 ∷ 2 ∷ 0 ∷ 0 ∷ 0 ∷ 4 ∷ []) 204 gives leaves (answer 20 20 0) (freshFrom 0 204)
+    toUnpack (3 ∷ 1 ∷ 6 ∷ 0 ∷ 2 ∷ 0 ∷ 2 ∷ 4 ∷ 216 ∷ 4 ∷ 0 ∷ 0 ∷ 3 ∷ 0 ∷ 2 ∷ 2 ∷ 0 ∷ 0 ∷ 0 ∷ 4 ∷ []) 204 gives leaves (answer 20 20 0) (freshFrom 0 204)
     -- cut at 21
     ∷ toUnpackCheck (3 ∷ 1 ∷ 6 ∷ 0 ∷ 2 ∷ 0 ∷ 2 ∷ 4 ∷ 216 ∷ 4 ∷ 0 ∷ 0 ∷ 3 ∷ 0 ∷ 2 ∷ 2 ∷ 0 ∷ 0 ∷ 0 ∷ 4 ∷ 215 ∷ []) gives number 1310740
     -- cut at 22
@@ -106,6 +56,56 @@ table22 =
     ∷ toUnpack (8 ∷ 1 ∷ 2 ∷ 0 ∷ 2 ∷ 8 ∷ 18 ∷ 0 ∷ 0 ∷ 0 ∷ 0 ∷ 1 ∷ 2 ∷ 2 ∷ 2 ∷ 2 ∷ 2 ∷ 0 ∷ 0 ∷ 0 ∷ 0 ∷ 1 ∷ 4 ∷ 4 ∷ 14 ∷ 9 ∷ 3 ∷ 128 ∷ 128 ∷ 128 ∷ 128 ∷ 0 ∷ 0 ∷ 0 ∷ 0 ∷ 2 ∷ 0 ∷ 0 ∷ 0 ∷ 0 ∷ 0 ∷ 3 ∷ 4 ∷ 0 ∷ 0 ∷ 0 ∷ 0 ∷ 13 ∷ 4 ∷ 8 ∷ 9 ∷ 6 ∷ 2 ∷ 7 ∷ 6 ∷ 0 ∷ 0 ∷ 0 ∷ 0 ∷ 0 ∷ 0 ∷ 0 ∷ 0 ∷ []) 17 gives leaves (answer 14 0 0) (freshFrom 0 17)
     -- one number spoilt
     ∷ toUnpackCheck (8 ∷ 1 ∷ 2 ∷ 0 ∷ 2 ∷ 8 ∷ 18 ∷ 0 ∷ 0 ∷ 254 ∷ 255 ∷ 255 ∷ 255 ∷ 127 ∷ 0 ∷ 1 ∷ 2 ∷ 2 ∷ 2 ∷ 2 ∷ 2 ∷ 0 ∷ 0 ∷ 0 ∷ 0 ∷ 1 ∷ 4 ∷ 4 ∷ 14 ∷ 9 ∷ 3 ∷ 0 ∷ 0 ∷ 0 ∷ 0 ∷ 2 ∷ 0 ∷ 0 ∷ 0 ∷ 0 ∷ 0 ∷ 3 ∷ 4 ∷ 0 ∷ 0 ∷ 0 ∷ 0 ∷ 13 ∷ 4 ∷ 8 ∷ 9 ∷ 6 ∷ 2 ∷ 7 ∷ 6 ∷ 0 ∷ 0 ∷ 0 ∷ 0 ∷ 0 ∷ 0 ∷ 0 ∷ 0 ∷ []) gives number 458752
+    -- random
+    ∷ toUnpack (2 ∷ 187 ∷ 247 ∷ 171 ∷ 230 ∷ 134 ∷ 67 ∷ 226 ∷ 13 ∷ 133 ∷ 6 ∷ []) 204 gives leaves (answer 21 1 0) (freshFrom 0 204)
+    -- edge word
+    ∷ toUnpack (8 ∷ 1 ∷ 2 ∷ 128 ∷ 128 ∷ 128 ∷ 128 ∷ 32 ∷ 2 ∷ 8 ∷ 18 ∷ 0 ∷ 0 ∷ 0 ∷ 0 ∷ 1 ∷ 2 ∷ 2 ∷ 2 ∷ 2 ∷ 2 ∷ 0 ∷ 0 ∷ 0 ∷ 0 ∷ 1 ∷ 4 ∷ 4 ∷ 14 ∷ 9 ∷ 3 ∷ 0 ∷ 0 ∷ 0 ∷ 0 ∷ 2 ∷ 0 ∷ 0 ∷ 0 ∷ 0 ∷ 0 ∷ 3 ∷ 4 ∷ 0 ∷ 0 ∷ 0 ∷ 0 ∷ 13 ∷ 4 ∷ 8 ∷ 9 ∷ 6 ∷ 2 ∷ 7 ∷ 6 ∷ 0 ∷ 0 ∷ 0 ∷ 0 ∷ 0 ∷ 0 ∷ 0 ∷ 0 ∷ []) 204 gives leaves (answer 0 0 8) (nodes ((2 ∷ 0 ∷ 0 ∷ 0 ∷ 2 ∷ 8589934592 ∷ 2 ∷ 8 ∷ 18 ∷ []) ∷ (2 ∷ 0 ∷ 0 ∷ 0 ∷ 2 ∷ 2 ∷ 2 ∷ 2 ∷ 2 ∷ []) ∷ (2 ∷ 0 ∷ 0 ∷ 0 ∷ 4 ∷ 4 ∷ 14 ∷ 9 ∷ 3 ∷ []) ∷ (4 ∷ []) ∷ (6 ∷ 4 ∷ []) ∷ (26 ∷ 4 ∷ 8 ∷ []) ∷ (18 ∷ 6 ∷ 2 ∷ []) ∷ (14 ∷ 6 ∷ []) ∷ []) ++ freshFrom 136 68)
+    -- whole
+    ∷ toUnpack (5 ∷ 1 ∷ 0 ∷ 0 ∷ 2 ∷ 0 ∷ 2 ∷ 4 ∷ 0 ∷ 0 ∷ 0 ∷ 1 ∷ 0 ∷ 2 ∷ 14 ∷ 0 ∷ 2 ∷ 4 ∷ 0 ∷ 0 ∷ 0 ∷ 6 ∷ 0 ∷ 10 ∷ 0 ∷ 0 ∷ 0 ∷ 4 ∷ 0 ∷ 0 ∷ 0 ∷ 16 ∷ 4 ∷ 4 ∷ 5 ∷ 2 ∷ 4 ∷ 0 ∷ 0 ∷ 0 ∷ []) 204 gives leaves (answer 0 0 5) (nodes ((2 ∷ 0 ∷ 0 ∷ 0 ∷ 0 ∷ 0 ∷ 2 ∷ 0 ∷ 2 ∷ 4 ∷ []) ∷ (2 ∷ 0 ∷ 0 ∷ 0 ∷ 0 ∷ 2 ∷ 14 ∷ 0 ∷ 2 ∷ 4 ∷ []) ∷ (12 ∷ 0 ∷ 0 ∷ 0 ∷ 0 ∷ 0 ∷ 0 ∷ 0 ∷ 0 ∷ 10 ∷ 0 ∷ 0 ∷ 0 ∷ 4 ∷ []) ∷ (32 ∷ 4 ∷ 4 ∷ []) ∷ (10 ∷ 2 ∷ 0 ∷ 0 ∷ 0 ∷ 0 ∷ 0 ∷ 0 ∷ 0 ∷ 4 ∷ []) ∷ []) ++ freshFrom 85 119)
+    -- cut
+    ∷ toUnpack (5 ∷ 1 ∷ 0 ∷ []) 204 gives leaves (answer 20 3 0) (freshFrom 0 204)
+    -- bytes appended
+    ∷ toUnpack (5 ∷ 1 ∷ 0 ∷ 0 ∷ 2 ∷ 0 ∷ 2 ∷ 4 ∷ 0 ∷ 0 ∷ 0 ∷ 1 ∷ 0 ∷ 2 ∷ 14 ∷ 0 ∷ 2 ∷ 4 ∷ 0 ∷ 0 ∷ 0 ∷ 6 ∷ 0 ∷ 10 ∷ 0 ∷ 0 ∷ 0 ∷ 4 ∷ 0 ∷ 0 ∷ 0 ∷ 16 ∷ 4 ∷ 4 ∷ 5 ∷ 2 ∷ 4 ∷ 0 ∷ 0 ∷ 0 ∷ 0 ∷ 128 ∷ []) 204 gives leaves (answer 22 40 0) (freshFrom 0 204)
+    -- one number spoilt
+    ∷ toUnpack (5 ∷ 1 ∷ 0 ∷ 0 ∷ 2 ∷ 0 ∷ 2 ∷ 4 ∷ 0 ∷ 0 ∷ 0 ∷ 1 ∷ 0 ∷ 2 ∷ 14 ∷ 0 ∷ 2 ∷ 4 ∷ 0 ∷ 0 ∷ 0 ∷ 6 ∷ 0 ∷ 10 ∷ 0 ∷ 0 ∷ 0 ∷ 4 ∷ 0 ∷ 0 ∷ 128 ∷ 128 ∷ 128 ∷ 128 ∷ 0 ∷ []) 204 gives leaves (answer 21 30 0) (freshFrom 0 204)
+    -- one number spoilt
+    ∷ toUnpack (5 ∷ 1 ∷ 0 ∷ 0 ∷ 2 ∷ 0 ∷ 2 ∷ 4 ∷ 0 ∷ 0 ∷ 0 ∷ 1 ∷ 0 ∷ 128 ∷ 0 ∷ 14 ∷ 0 ∷ 2 ∷ 4 ∷ 0 ∷ 0 ∷ 0 ∷ 6 ∷ 0 ∷ 10 ∷ 0 ∷ 0 ∷ 0 ∷ 4 ∷ 0 ∷ 0 ∷ 0 ∷ 16 ∷ 4 ∷ 4 ∷ 5 ∷ 2 ∷ 4 ∷ 0 ∷ 0 ∷ 0 ∷ []) 16 gives leaves (answer 14 0 0) (freshFrom 0 16)
+    -- one number spoilt
+    ∷ toUnpack (5 ∷ 1 ∷ 128 ∷ 128 ∷ 128 ∷ 128 ∷ 0 ∷ 2 ∷ 0 ∷ 2 ∷ 4 ∷ 0 ∷ 0 ∷ 0 ∷ 1 ∷ 0 ∷ 2 ∷ 14 ∷ 0 ∷ 2 ∷ 4 ∷ 0 ∷ 0 ∷ 0 ∷ 6 ∷ 0 ∷ 10 ∷ 0 ∷ 0 ∷ 0 ∷ 4 ∷ 0 ∷ 0 ∷ 0 ∷ 16 ∷ 4 ∷ 4 ∷ 5 ∷ 2 ∷ 4 ∷ 0 ∷ 0 ∷ 0 ∷ []) 204 gives leaves (answer 21 2 0) (freshFrom 0 204)
+    -- random
+    ∷ toUnpackCheck (0 ∷ 131 ∷ 220 ∷ 161 ∷ 52 ∷ 191 ∷ 44 ∷ 79 ∷ 170 ∷ 33 ∷ 108 ∷ 248 ∷ 59 ∷ []) gives number 1507328
+    -- edge word
+    ∷ toUnpackCheck (5 ∷ 1 ∷ 0 ∷ 0 ∷ 2 ∷ 128 ∷ 128 ∷ 128 ∷ 1 ∷ 2 ∷ 4 ∷ 0 ∷ 0 ∷ 0 ∷ 1 ∷ 0 ∷ 2 ∷ 14 ∷ 0 ∷ 2 ∷ 4 ∷ 0 ∷ 0 ∷ 0 ∷ 6 ∷ 0 ∷ 10 ∷ 0 ∷ 0 ∷ 0 ∷ 4 ∷ 0 ∷ 0 ∷ 0 ∷ 16 ∷ 4 ∷ 4 ∷ 5 ∷ 2 ∷ 4 ∷ 0 ∷ 0 ∷ 0 ∷ []) gives number 458752
+    -- whole
+    ∷ toUnpackCheck (8 ∷ 1 ∷ 0 ∷ 0 ∷ 2 ∷ 0 ∷ 0 ∷ 6 ∷ 0 ∷ 0 ∷ 0 ∷ 1 ∷ 0 ∷ 2 ∷ 2 ∷ 2 ∷ 2 ∷ 0 ∷ 0 ∷ 0 ∷ 0 ∷ 1 ∷ 4 ∷ 4 ∷ 2 ∷ 5 ∷ 1 ∷ 2 ∷ 0 ∷ 0 ∷ 0 ∷ 1 ∷ 2 ∷ 6 ∷ 2 ∷ 8 ∷ 18 ∷ 6 ∷ 0 ∷ 0 ∷ 0 ∷ 5 ∷ 2 ∷ 0 ∷ 0 ∷ 0 ∷ 0 ∷ 17 ∷ 8 ∷ 2 ∷ 3 ∷ 10 ∷ 0 ∷ 0 ∷ 0 ∷ 0 ∷ 3 ∷ 10 ∷ 0 ∷ 0 ∷ 0 ∷ 0 ∷ []) gives number 8
+    -- cut
+    ∷ toUnpackCheck (8 ∷ 1 ∷ 0 ∷ 0 ∷ 2 ∷ 0 ∷ 0 ∷ 6 ∷ 0 ∷ 0 ∷ 0 ∷ 1 ∷ 0 ∷ 2 ∷ 2 ∷ 2 ∷ 2 ∷ 0 ∷ 0 ∷ 0 ∷ 0 ∷ 1 ∷ 4 ∷ 4 ∷ 2 ∷ 5 ∷ 1 ∷ 2 ∷ 0 ∷ 0 ∷ 0 ∷ 1 ∷ 2 ∷ 6 ∷ 2 ∷ 8 ∷ 18 ∷ 6 ∷ 0 ∷ 0 ∷ 0 ∷ 5 ∷ 2 ∷ 0 ∷ 0 ∷ 0 ∷ 0 ∷ 17 ∷ 8 ∷ 2 ∷ 3 ∷ 10 ∷ 0 ∷ 0 ∷ 0 ∷ []) gives number 1310775
+    -- bytes appended
+    ∷ toUnpackCheck (8 ∷ 1 ∷ 0 ∷ 0 ∷ 2 ∷ 0 ∷ 0 ∷ 6 ∷ 0 ∷ 0 ∷ 0 ∷ 1 ∷ 0 ∷ 2 ∷ 2 ∷ 2 ∷ 2 ∷ 0 ∷ 0 ∷ 0 ∷ 0 ∷ 1 ∷ 4 ∷ 4 ∷ 2 ∷ 5 ∷ 1 ∷ 2 ∷ 0 ∷ 0 ∷ 0 ∷ 1 ∷ 2 ∷ 6 ∷ 2 ∷ 8 ∷ 18 ∷ 6 ∷ 0 ∷ 0 ∷ 0 ∷ 5 ∷ 2 ∷ 0 ∷ 0 ∷ 0 ∷ 0 ∷ 17 ∷ 8 ∷ 2 ∷ 3 ∷ 10 ∷ 0 ∷ 0 ∷ 0 ∷ 0 ∷ 3 ∷ 10 ∷ 0 ∷ 0 ∷ 0 ∷ 0 ∷ 1 ∷ 0 ∷ 0 ∷ []) gives number 1441854
+    -- one number spoilt
+    ∷ toUnpackCheck (8 ∷ 1 ∷ 0 ∷ 0 ∷ 2 ∷ 0 ∷ 0 ∷ 6 ∷ 0 ∷ 0 ∷ 0 ∷ 1 ∷ 0 ∷ 2 ∷ 2 ∷ 2 ∷ 2 ∷ 0 ∷ 0 ∷ 0 ∷ 0 ∷ 1 ∷ 4 ∷ 4 ∷ 2 ∷ 5 ∷ 1 ∷ 2 ∷ 0 ∷ 0 ∷ 0 ∷ 1 ∷ 2 ∷ 6 ∷ 2 ∷ 8 ∷ 18 ∷ 6 ∷ 0 ∷ 0 ∷ 0 ∷ 5 ∷ 2 ∷ 0 ∷ 0 ∷ 0 ∷ 0 ∷ 17 ∷ 8 ∷ 2 ∷ 3 ∷ 10 ∷ 128 ∷ 0 ∷ []) gives number 1376308
+    -- one number spoilt
+    ∷ toUnpack (8 ∷ 1 ∷ 0 ∷ 0 ∷ 2 ∷ 0 ∷ 0 ∷ 6 ∷ 0 ∷ 0 ∷ 0 ∷ 1 ∷ 0 ∷ 2 ∷ 2 ∷ 2 ∷ 2 ∷ 0 ∷ 0 ∷ 0 ∷ 0 ∷ 1 ∷ 4 ∷ 4 ∷ 2 ∷ 5 ∷ 1 ∷ 2 ∷ 0 ∷ 0 ∷ 0 ∷ 1 ∷ 2 ∷ 6 ∷ 2 ∷ 8 ∷ 18 ∷ 6 ∷ 0 ∷ 0 ∷ 0 ∷ 5 ∷ 2 ∷ 0 ∷ 0 ∷ 0 ∷ 0 ∷ 17 ∷ 8 ∷ 2 ∷ 3 ∷ 10 ∷ 0 ∷ 0 ∷ 0 ∷ 0 ∷ 255 ∷ 255 ∷ 3 ∷ []) 204 gives leaves (answer 24 56 0) (freshFrom 0 204)
+    -- one number spoilt
+    ∷ toUnpackCheck (8 ∷ 1 ∷ 0 ∷ 0 ∷ 2 ∷ 0 ∷ 0 ∷ 6 ∷ 0 ∷ 0 ∷ 0 ∷ 1 ∷ 0 ∷ 2 ∷ 2 ∷ 2 ∷ 2 ∷ 0 ∷ 0 ∷ 0 ∷ 0 ∷ 1 ∷ 4 ∷ 128 ∷ 128 ∷ 128 ∷ 128 ∷ 2 ∷ 5 ∷ 1 ∷ 2 ∷ 0 ∷ 0 ∷ 0 ∷ 1 ∷ 2 ∷ 6 ∷ 2 ∷ 8 ∷ 18 ∷ 6 ∷ 0 ∷ 0 ∷ 0 ∷ 5 ∷ 2 ∷ 0 ∷ 0 ∷ 0 ∷ 0 ∷ 17 ∷ 8 ∷ 2 ∷ 3 ∷ 10 ∷ 0 ∷ 0 ∷ 0 ∷ 0 ∷ 3 ∷ 10 ∷ 0 ∷ 0 ∷ 0 ∷ 0 ∷ []) gives number 1441851
+    -- random
+    ∷ toUnpack (5 ∷ 119 ∷ 125 ∷ 206 ∷ []) 204 gives leaves (answer 24 1 0) (freshFrom 0 204)
+    -- edge word
+    ∷ toUnpack (8 ∷ 1 ∷ 0 ∷ 0 ∷ 2 ∷ 0 ∷ 0 ∷ 6 ∷ 0 ∷ 0 ∷ 0 ∷ 1 ∷ 0 ∷ 2 ∷ 2 ∷ 2 ∷ 2 ∷ 0 ∷ 0 ∷ 0 ∷ 0 ∷ 1 ∷ 4 ∷ 4 ∷ 2 ∷ 5 ∷ 1 ∷ 2 ∷ 0 ∷ 0 ∷ 0 ∷ 1 ∷ 2 ∷ 6 ∷ 2 ∷ 8 ∷ 18 ∷ 6 ∷ 0 ∷ 0 ∷ 0 ∷ 5 ∷ 2 ∷ 0 ∷ 0 ∷ 0 ∷ 0 ∷ 17 ∷ 8 ∷ 2 ∷ 3 ∷ 10 ∷ 0 ∷ 0 ∷ 0 ∷ 0 ∷ 3 ∷ 10 ∷ 0 ∷ 0 ∷ 0 ∷ 128 ∷ 4 ∷ []) 17 gives leaves (answer 14 0 0) (freshFrom 0 17)
+    -- whole
+    ∷ toUnpack (8 ∷ 1 ∷ 0 ∷ 0 ∷ 2 ∷ 0 ∷ 2 ∷ 0 ∷ 0 ∷ 0 ∷ 0 ∷ 1 ∷ 0 ∷ 2 ∷ 14 ∷ 2 ∷ 2 ∷ 0 ∷ 0 ∷ 0 ∷ 0 ∷ 1 ∷ 0 ∷ 4 ∷ 14 ∷ 2 ∷ 2 ∷ 0 ∷ 0 ∷ 0 ∷ 0 ∷ 1 ∷ 0 ∷ 6 ∷ 2 ∷ 0 ∷ 0 ∷ 0 ∷ 0 ∷ 0 ∷ 0 ∷ 8 ∷ 0 ∷ 4 ∷ 2 ∷ 2 ∷ 0 ∷ 0 ∷ 0 ∷ 0 ∷ 16 ∷ 0 ∷ 0 ∷ 6 ∷ 0 ∷ 0 ∷ 0 ∷ 0 ∷ 0 ∷ 0 ∷ 0 ∷ 0 ∷ 0 ∷ []) 204 gives leaves (answer 0 0 8) (nodes ((2 ∷ 0 ∷ 0 ∷ 0 ∷ 0 ∷ 0 ∷ 2 ∷ 0 ∷ 2 ∷ []) ∷ (2 ∷ 0 ∷ 0 ∷ 0 ∷ 0 ∷ 2 ∷ 14 ∷ 2 ∷ 2 ∷ []) ∷ (2 ∷ 0 ∷ 0 ∷ 0 ∷ 0 ∷ 4 ∷ 14 ∷ 2 ∷ 2 ∷ []) ∷ (2 ∷ 0 ∷ 0 ∷ 0 ∷ 0 ∷ 6 ∷ 2 ∷ []) ∷ (16 ∷ 0 ∷ 0 ∷ 0 ∷ 4 ∷ []) ∷ (4 ∷ 2 ∷ []) ∷ (32 ∷ []) ∷ (12 ∷ []) ∷ []) ++ freshFrom 136 68)
+    -- cut
+    ∷ toUnpackCheck (8 ∷ 1 ∷ 0 ∷ 0 ∷ 2 ∷ 0 ∷ 2 ∷ 0 ∷ 0 ∷ 0 ∷ 0 ∷ 1 ∷ 0 ∷ 2 ∷ 14 ∷ 2 ∷ 2 ∷ 0 ∷ 0 ∷ 0 ∷ 0 ∷ 1 ∷ 0 ∷ 4 ∷ 14 ∷ 2 ∷ 2 ∷ 0 ∷ 0 ∷ 0 ∷ 0 ∷ 1 ∷ 0 ∷ 6 ∷ 2 ∷ 0 ∷ 0 ∷ 0 ∷ 0 ∷ 0 ∷ 0 ∷ 8 ∷ 0 ∷ 4 ∷ 2 ∷ 2 ∷ 0 ∷ 0 ∷ 0 ∷ []) gives number 1310769
+    -- bytes appended
+    ∷ toUnpackCheck (8 ∷ 1 ∷ 0 ∷ 0 ∷ 2 ∷ 0 ∷ 2 ∷ 0 ∷ 0 ∷ 0 ∷ 0 ∷ 1 ∷ 0 ∷ 2 ∷ 14 ∷ 2 ∷ 2 ∷ 0 ∷ 0 ∷ 0 ∷ 0 ∷ 1 ∷ 0 ∷ 4 ∷ 14 ∷ 2 ∷ 2 ∷ 0 ∷ 0 ∷ 0 ∷ 0 ∷ 1 ∷ 0 ∷ 6 ∷ 2 ∷ 0 ∷ 0 ∷ 0 ∷ 0 ∷ 0 ∷ 0 ∷ 8 ∷ 0 ∷ 4 ∷ 2 ∷ 2 ∷ 0 ∷ 0 ∷ 0 ∷ 0 ∷ 16 ∷ 0 ∷ 0 ∷ 6 ∷ 0 ∷ 0 ∷ 0 ∷ 0 ∷ 0 ∷ 0 ∷ 0 ∷ 0 ∷ 0 ∷ 255 ∷ 128 ∷ []) gives number 1441855
+    -- one number spoilt
+    ∷ toUnpack (8 ∷ 1 ∷ 0 ∷ 0 ∷ 2 ∷ 0 ∷ 2 ∷ 0 ∷ 0 ∷ 0 ∷ 0 ∷ 1 ∷ 0 ∷ 2 ∷ 14 ∷ 2 ∷ 2 ∷ 0 ∷ 0 ∷ 0 ∷ 0 ∷ 1 ∷ 0 ∷ 4 ∷ 14 ∷ 2 ∷ 2 ∷ 0 ∷ 0 ∷ 0 ∷ 0 ∷ 1 ∷ 0 ∷ 6 ∷ 2 ∷ 0 ∷ 0 ∷ 0 ∷ 0 ∷ 0 ∷ 0 ∷ 8 ∷ 0 ∷ 4 ∷ 2 ∷ 2 ∷ 0 ∷ 0 ∷ 0 ∷ 0 ∷ 16 ∷ 149 ∷ 1 ∷ 0 ∷ 6 ∷ 0 ∷ 0 ∷ 0 ∷ 0 ∷ 0 ∷ 0 ∷ 0 ∷ 0 ∷ 0 ∷ []) 204 gives leaves (answer 0 0 8) (nodes ((2 ∷ 0 ∷ 0 ∷ 0 ∷ 0 ∷ 0 ∷ 2 ∷ 0 ∷ 2 ∷ []) ∷ (2 ∷ 0 ∷ 0 ∷ 0 ∷ 0 ∷ 2 ∷ 14 ∷ 2 ∷ 2 ∷ []) ∷ (2 ∷ 0 ∷ 0 ∷ 0 ∷ 0 ∷ 4 ∷ 14 ∷ 2 ∷ 2 ∷ []) ∷ (2 ∷ 0 ∷ 0 ∷ 0 ∷ 0 ∷ 6 ∷ 2 ∷ []) ∷ (16 ∷ 0 ∷ 0 ∷ 0 ∷ 4 ∷ []) ∷ (4 ∷ 2 ∷ []) ∷ (32 ∷ 149 ∷ []) ∷ (12 ∷ []) ∷ []) ++ freshFrom 136 68)
+    -- one number spoilt
+    ∷ toUnpack (8 ∷ 1 ∷ 0 ∷ 0 ∷ 2 ∷ 0 ∷ 2 ∷ 0 ∷ 0 ∷ 0 ∷ 0 ∷ 1 ∷ 0 ∷ 2 ∷ 14 ∷ 2 ∷ 2 ∷ 0 ∷ 0 ∷ 0 ∷ 0 ∷ 1 ∷ 0 ∷ 4 ∷ 14 ∷ 2 ∷ 2 ∷ 0 ∷ 0 ∷ 0 ∷ 0 ∷ 1 ∷ 0 ∷ 6 ∷ 2 ∷ 0 ∷ 0 ∷ 0 ∷ 0 ∷ 0 ∷ 0 ∷ 8 ∷ 0 ∷ 4 ∷ 2 ∷ 2 ∷ 0 ∷ 0 ∷ 0 ∷ 0 ∷ 16 ∷ 0 ∷ 0 ∷ 254 ∷ 255 ∷ 255 ∷ 255 ∷ 127 ∷ 0 ∷ 0 ∷ 0 ∷ 0 ∷ 0 ∷ 0 ∷ 0 ∷ 0 ∷ 0 ∷ []) 204 gives leaves (answer 24 53 0) (freshFrom 0 204)
+    -- one number spoilt
+    ∷ toUnpack (8 ∷ 1 ∷ 0 ∷ 128 ∷ 128 ∷ 128 ∷ 0 ∷ 2 ∷ 0 ∷ 2 ∷ 0 ∷ 0 ∷ 0 ∷ 0 ∷ 1 ∷ 0 ∷ 2 ∷ 14 ∷ 2 ∷ 2 ∷ 0 ∷ 0 ∷ 0 ∷ 0 ∷ 1 ∷ 0 ∷ 4 ∷ 14 ∷ 2 ∷ 2 ∷ 0 ∷ 0 ∷ 0 ∷ 0 ∷ 1 ∷ 0 ∷ 6 ∷ 2 ∷ 0 ∷ 0 ∷ 0 ∷ 0 ∷ 0 ∷ 0 ∷ 8 ∷ 0 ∷ 4 ∷ 2 ∷ 2 ∷ 0 ∷ 0 ∷ 0 ∷ 0 ∷ 16 ∷ 0 ∷ 0 ∷ 6 ∷ 0 ∷ 0 ∷ 0 ∷ 0 ∷ 0 ∷ 0 ∷ 0 ∷ 0 ∷ 0 ∷ []) 204 gives leaves (answer 21 3 0) (freshFrom 0 204)
+    -- random
+    ∷ toUnpackCheck (0 ∷ 15 ∷ 207 ∷ 56 ∷ 154 ∷ 128 ∷ 47 ∷ 234 ∷ []) gives number 1507328
     ∷ []
 
 pub table22-agrees : Agree table22

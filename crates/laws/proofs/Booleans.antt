@@ -38,3 +38,18 @@ pub all-below-of : (n : ℕ) (p : ℕ → Bool) → ((k : ℕ) → k < n → p k
 unfolding allBelow
 all-below-of zero p h = refl
 all-below-of (suc n) p h = rw (h 0 (zero-lt-suc n)) (all-below-of n (λ (j : ℕ). p (suc j)) (λ k q. h (suc k) (suc-le-suc q)))
+
+-- one more
+pub all-below-snoc : (n : ℕ) (p : ℕ → Bool) → allBelow (suc n) p ≡ (allBelow n p && p n)
+unfolding allBelow
+all-below-snoc zero p = go (p 0)
+  where
+    go : (b : Bool) → (b && true) ≡ (true && b)
+    go true = refl
+    go false = refl
+all-below-snoc (suc n) p = go (p 0) (all-below-snoc n (λ (k : ℕ). p (suc k)))
+  where
+    go : (b : Bool) → allBelow (suc n) (λ (k : ℕ). p (suc k)) ≡ (allBelow n (λ (k : ℕ). p (suc k)) && p (suc n))
+        → (b && allBelow (suc n) (λ (k : ℕ). p (suc k))) ≡ ((b && allBelow n (λ (k : ℕ). p (suc k))) && p (suc n))
+    go true e = e
+    go false e = refl
