@@ -87,7 +87,8 @@ every-element t ds input n v h =
           (permutation-row t n (take n ds) _ (rules t ds input n v h)) l f;
       broadcasts = λ q e l. two t ds input n v h e l q;
       chooses = λ q e l. three t ds input n v h e l q;
-      gathers = λ q e l.
-          (gathered-some _ (listOf (nodeAt t n .rowa)) e (source-extents t ds input n v h 1 (nodeAt t n .source1) .positive),
-          λ i g. gathered-below _ (listOf (nodeAt t n .rowa)) e i (reduces t ds input n v h e l q) g);
+      gathers = λ q e l. (
+        gathered-some _ (listOf (nodeAt t n .rowa)) e (source-extents t ds input n v h 1 (nodeAt t n .source1) .positive),
+        λ i g. gathered-below _ (listOf (nodeAt t n .rowa)) e i (reduces t ds input n v h e l q) g,
+      );
     }

@@ -13,9 +13,13 @@ returns c =
     let x = c .before .before .before .before .before .args .x in
     let range = c .before .before .before .before .type-range in
     let told = c .before .before .before .struct-told .given in
-    rw
-    (R-is (fit-at (x .low) (c .struct-told4 .given .0 .1)), R-is (fit-at (x .high) (c .struct-told4 .given .1 .0 .1)),
-    R-is (fit-at (range .result .low) (told .0 .1)), R-is (fit-at (range .result .high) (told .1 .0 .1)), range .ensures)
+    rw (
+      R-is (fit-at (x .low) (c .struct-told4 .given .0 .1)),
+      R-is (fit-at (x .high) (c .struct-told4 .given .1 .0 .1)),
+      R-is (fit-at (range .result .low) (told .0 .1)),
+      R-is (fit-at (range .result .high) (told .1 .0 .1)),
+      range .ensures,
+    )
 
 pub in-type-spec : {M : Type 1} → statement M
 in-type-spec = tie.close (tie.spec type-range-requires returns)
