@@ -83,7 +83,7 @@ permuted-positive s row p = positive-map (λ (a : ℕ). extent s a) (take (lengt
 abbrev pub Ranked : List ℕ → Type 0
 Ranked s = length s ≤ 4
 
-extents-length : (row : List ℕ) → length (extentsOf row) ≤ length row
+pub extents-length : (row : List ℕ) → length (extentsOf row) ≤ length row
 unfolding extentsOf
 extents-length [] = omega arith
 extents-length (n ∷ ns) =

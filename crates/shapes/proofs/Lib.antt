@@ -1,5 +1,7 @@
 pub mod Tables
 pub mod Extents
+pub mod Words
+pub mod RowTests
 pub mod Broadcast
 pub mod Sources
 pub mod Facts

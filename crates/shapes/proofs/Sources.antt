@@ -7,7 +7,7 @@ use mathlib.Core.Option.{Option, none, some}
 use mathlib.Core.List.{List, [], _∷_, map}
 use native.Mathlib.Omega.{arith}
 use native.Mathlib.Nat.{zero-add}
-use borrow.Author.Tests.{eqb-true, ltb-true, leb-true, lt-ltb}
+use borrow.Author.Tests.{eqb-true, ltb-true, leb-true}
 use lib.Dec.{eqb, ltb, leb}
 use lib.ListN.{length, getD, take, length-map}
 use lib.Seq.{getD-take, length-take-le}
@@ -26,6 +26,7 @@ use Rattle.shapes.specs.Rows.{extentsOf, rowOf, isPermutation}
 use Rattle.shapes.specs.Rules.{extent, wordOf, flagged, sameRank, permuted, reduced, gatheredExtents, shapesAgree, resultExtents}
 use Rattle.shapes.specs.Sources.{permuteSource, flipSource, expandSource, inSource, padSource, shrinkSource, sourceElement, Below, reduceSource, gathered}
 use Rattle.shapes.proofs.Extents.{Positive, some-element, gathered-positive, reduced-length, gathered-length}
+use Rattle.shapes.proofs.RowTests.{axis-below}
 use Rattle.shapes.proofs.Broadcast.{Spreads, spread-below, expand-spread}
 
 -- ---- PERMUTE
@@ -72,11 +73,8 @@ module _ (s row : List ℕ) (p : isPermutation (length s) row ≡ true) where
 -- "result axis k is source axis A_k": coordinate A_k of the source element is coordinate k of the result's
 pub permute-coordinate : (s : List ℕ) (row : Row) (e : ℕ) → length s ≤ 4 → isPermutation (length s) (listOf row) ≡ true → e < count (permuted s (listOf row))
     → (k : ℕ) → k < length s → coord s (permuteSource s (permuted s (listOf row)) (listOf row) e) (wordOf (listOf row) k) ≡ coord (permuted s (listOf row)) e k
-unfolding isPermutation rowOf
 permute-coordinate s row e ranked p h k q =
-    let tests = and-true (allBelow 4 (λ (k : ℕ). cond (ltb k (length s)) (ltb (getD (listOf row) k 0) (length s)) (eqb (getD (listOf row) k 0) 0))) _ p .0 in
-    let test = all-below 4 (λ (k : ℕ). cond (ltb k (length s)) (ltb (getD (listOf row) k 0) (length s)) (eqb (getD (listOf row) k 0) 0)) tests k (omega arith) in
-    let axis : getD (listOf row) k 0 < length s = ltb-true _ _ (rw (lt-ltb k (length s) q) at test) in
+    let axis : getD (listOf row) k 0 < length s = axis-below (length s) (listOf row) p k (omega arith) q in
     let same : getD (take (length s) (listOf row)) k 0 ≡ getD (listOf row) k 0 = getD-take (length s) (listOf row) k 0 q in
     let there : k < length (take (length s) (listOf row)) = rw (length-take-le (length s) (listOf row) ranked) q in
     rw same at (axis-coordinate s (listOf row) p e h k there (rw same axis))

@@ -1,3 +1,4 @@
 pub mod Rows
 pub mod Rules
 pub mod Sources
+pub mod Shown

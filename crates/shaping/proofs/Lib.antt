@@ -1,0 +1,5 @@
+pub mod Counts
+pub mod Axes
+pub mod Alignment
+pub mod Flags
+pub mod Rule8
