@@ -1,1 +1,6 @@
 pub mod Facts
+pub mod Reading
+pub mod Bounds
+pub mod Storing
+pub mod Unpacking
+pub mod Limits

@@ -3,7 +3,7 @@ use Prim.Native.Nat.{ℕ, zero, suc, _+_, _≤_, _<_}
 use mathlib.Core.Path.{_≡_, refl, ap, sym, _∙_}
 use mathlib.Core.Bool.{Bool, true, false, cond, false≢true, true≢false}
 use mathlib.Core.Logic.{⊎-elim}
-use mathlib.Core.List.{List, [], _∷_}
+use mathlib.Core.List.{List, [], _∷_, _++_}
 use native.Mathlib.Omega.{arith}
 use native.Mathlib.Nat.{eq-or-lt-of-le, not-suc-le-zero, le-of-suc-le-suc}
 use Rattle.plan.specs.Answers.{Refusal, Outcome, accepted, refused, refuse, need, andThen, inTurn, Rule, rule, inOrder, AllHold, FirstFailing, here, later}
@@ -110,6 +110,26 @@ turn-same {A} step other start (suc m) h =
     by (refused r) e = rw e refl
 
 -- ---- rules in order
+
+-- the first rule fails, or it holds and a later one is the first that fails
+pub fails-here : {number : ℕ} {rules : List Rule} (test : Bool) → test ≡ false → FirstFailing (rule number test ∷ rules) number
+fails-here test e = rw e here
+
+pub holds-then : {number failing : ℕ} {rules : List Rule} (test : Bool) → test ≡ true → FirstFailing rules failing → FirstFailing (rule number test ∷ rules) failing
+holds-then test e f = rw e (later f)
+
+-- rules after rules
+pub first-front : {failing : ℕ} {rules : List Rule} (more : List Rule) → FirstFailing rules failing → FirstFailing (rules ++ more) failing
+first-front more here = here
+first-front more (later f) = later (first-front more f)
+
+pub first-back : {failing : ℕ} (rules : List Rule) {more : List Rule} → AllHold rules → FirstFailing more failing → FirstFailing (rules ++ more) failing
+first-back [] h f = f
+first-back (rule number test ∷ rules) h f = holds-then test (h .0) (first-back rules (h .1) f)
+
+pub all-both : (rules more : List Rule) → AllHold rules → AllHold more → AllHold (rules ++ more)
+all-both [] more h k = k
+all-both (rule number test ∷ rules) more h k = (h .0, all-both rules more (h .1) k)
 
 module _ {A : Type 0} where
   pub order-accepted : {a : A} (rules : List Rule) (place : ℕ) (next : Outcome A) → inOrder rules place next ≡ accepted a → AllHold rules × (next ≡ accepted a)
