@@ -74,12 +74,15 @@ smaller-count [] f h = omega arith
 smaller-count (n ∷ ns) f h = mul-le-mul (h 0) (smaller-count ns (λ k. f (suc k)) (λ k. h (suc k)))
 
 -- REDUCE gathers no more elements than its source has
-pub gathered-within : (s flags : List ℕ) → Positive s → count s ≤ elementLimit
-    → capped (count (gatheredExtents s flags)) ≡ count (gatheredExtents s flags)
+pub gathered-few : (s flags : List ℕ) → Positive s → count s ≤ elementLimit → count (gatheredExtents s flags) ≤ elementLimit
 unfolding gatheredExtents
-gathered-within s flags p h =
+gathered-few s flags p h =
     let less = smaller-count s (λ (k : ℕ). cond (flagged flags k) (extent s k) 1) each in
-    capped-within (omega arith)
+    omega arith
   where
     each : (k : ℕ) → cond (flagged flags k) (extent s k) 1 ≤ extent s k
     each k = cond-both (λ (n : ℕ). n ≤ extent s k) (flagged flags k) (extent s k) 1 (λ e. omega arith) (λ e. p k)
+
+pub gathered-within : (s flags : List ℕ) → Positive s → count s ≤ elementLimit
+    → capped (count (gatheredExtents s flags)) ≡ count (gatheredExtents s flags)
+gathered-within s flags p h = capped-within (gathered-few s flags p h)

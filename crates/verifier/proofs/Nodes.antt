@@ -30,8 +30,17 @@ implied : (p q : Bool) → implies p q ≡ true → p ≡ true → q ≡ true
 implied true q e h = e
 implied false q e h = absurd (false≢true h)
 
+-- rule 4: the sources that are used are earlier nodes
+pub sources-before : (x : Node) (n : ℕ) → sourcesEarlier x n ≡ true
+    → (uses (x .op) 1 ≡ true → x .source1 .0 < n) × (uses (x .op) 2 ≡ true → x .source2 .0 < n) × (uses (x .op) 3 ≡ true → x .source3 .0 < n)
+unfolding sourcesEarlier
+sources-before x n e =
+    let f = and-true (implies (uses (x .op) 1) (ltb (x .source1 .0) n)) _ e in
+    let g = and-true (implies (uses (x .op) 2) (ltb (x .source2 .0) n)) (implies (uses (x .op) 3) (ltb (x .source3 .0) n)) (f .1) in
+    (λ u. ltb-true _ _ (implied (uses (x .op) 1) _ (f .0) u), λ u. ltb-true _ _ (implied (uses (x .op) 2) _ (g .0) u), λ u. ltb-true _ _ (implied (uses (x .op) 3) _ (g .1) u))
+
 -- rule 7 of a PERMUTE
-permute-rule : (x : Node) (params rank : ℕ) → rowsRight x params rank ≡ true → x .op ≡ PERMUTE → isPermutation rank (listOf (x .rowa)) ≡ true
+pub permute-rule : (x : Node) (params rank : ℕ) → rowsRight x params rank ≡ true → x .op ≡ PERMUTE → isPermutation rank (listOf (x .rowa)) ≡ true
 unfolding rowsRight among
 permute-rule x params rank e q = rw q at e
 
@@ -43,18 +52,13 @@ module _ (t : List ℤ) (i : ℕ) (earlier : List Derived) (d : Derived) (m : No
 
   -- "the source always being an earlier node"
   pub source1-before : uses (nodeAt t i .op) 1 ≡ true → nodeAt t i .source1 .0 < i
-  unfolding sourcesEarlier
-  source1-before u = ltb-true _ _ (implied (uses (nodeAt t i .op) 1) _ (and-true _ _ (m .rule4) .0) u)
-
-  others : (implies (uses (nodeAt t i .op) 2) (ltb (nodeAt t i .source2 .0) i) && implies (uses (nodeAt t i .op) 3) (ltb (nodeAt t i .source3 .0) i)) ≡ true
-  unfolding sourcesEarlier
-  others = and-true (implies (uses (nodeAt t i .op) 1) (ltb (nodeAt t i .source1 .0) i)) _ (m .rule4) .1
+  source1-before = sources-before (nodeAt t i) i (m .rule4) .0
 
   pub source2-before : uses (nodeAt t i .op) 2 ≡ true → nodeAt t i .source2 .0 < i
-  source2-before u = ltb-true _ _ (implied (uses (nodeAt t i .op) 2) _ (and-true _ _ others .0) u)
+  source2-before = sources-before (nodeAt t i) i (m .rule4) .1
 
   pub source3-before : uses (nodeAt t i .op) 3 ≡ true → nodeAt t i .source3 .0 < i
-  source3-before u = ltb-true _ _ (implied (uses (nodeAt t i .op) 3) _ (and-true (implies (uses (nodeAt t i .op) 2) (ltb (nodeAt t i .source2 .0) i)) _ others .1) u)
+  source3-before = sources-before (nodeAt t i) i (m .rule4) .2
 
   pub permutation-row : nodeAt t i .op ≡ PERMUTE → isPermutation (length (first (nodeAt t i) earlier .extents)) (listOf (nodeAt t i .rowa)) ≡ true
   permutation-row q = permute-rule (nodeAt t i) _ _ (m .rule7) q

@@ -2,3 +2,4 @@ pub mod Rules
 pub mod Check
 pub mod Meets
 pub mod Listing
+pub mod Code
