@@ -1,20 +1,46 @@
-# make        builds all artefacts into build/
+# make        builds the library into build/: the archive liblupetzarin.a and the shared object liblupetzarin.so
 # make test   proves every crate, then runs the tests outside Rattle; its last line is 'N passed, 0 failed'
+# make linked a C program over the header and the archive; its last line is 'N passed, 0 failed'
 # make demo   the main job on example data
 # make bench  speed, as ratios measured in one run
-.PHONY: all test demo bench clean
+.PHONY: all test linked demo bench clean
+.DELETE_ON_ERROR:
 
-all:
-	@echo "build: nothing to build yet; the library comes with issue 3 (codec and check)"
+CC = gcc
+CFLAGS = -std=c11 -Wall -Wextra
+HEADER = include/lupetzarin.h
+ARCHIVE = build/liblupetzarin.a
+SHARED = build/liblupetzarin.so
+# Directories too: their times change where a file comes or goes.
+SOURCES = $(shell find crates) crates.txt TOOLCHAIN
+
+all: $(ARCHIVE) $(SHARED)
+
+$(ARCHIVE): $(SOURCES)
+	rt staticlib lupetzarin
+	mkdir -p build
+	cp target/staticlib/liblupetzarin.a $@
+
+$(SHARED): $(ARCHIVE)
+	$(CC) -shared -o $@ -Wl,--whole-archive $(ARCHIVE) -Wl,--no-whole-archive
+
+build/linked: tests/boundary/linked.c $(HEADER) $(ARCHIVE)
+	$(CC) $(CFLAGS) -Werror -Iinclude -o $@ tests/boundary/linked.c $(ARCHIVE)
+
+build/bench: bench/bench.c bench/plain.c bench/plain.h $(HEADER) $(ARCHIVE)
+	$(CC) $(CFLAGS) -O3 -Iinclude -o $@ bench/bench.c bench/plain.c $(ARCHIVE)
 
 test:
 	@tests/run
 
+linked: build/linked
+	@build/linked
+
 demo:
 	@echo "demo: nothing to show yet; it comes with the host program (issue 6)"
 
-bench:
-	@echo "bench: nothing to measure yet; it comes with the library (issue 3)"
+bench: build/bench
+	@build/bench
 
 clean:
 	rm -rf build target

@@ -185,9 +185,9 @@ judged-few x params a b c r n j =
 -- ---- the ways out
 
 module _ (t : List ℤ) (n : ℕ) (ds : List Record) where
-  pub derives-stop : (number place : ℕ) {r : Verdict} → Stops t n number place
+  pub derives-stop : (number place : ℕ) {r : Verdict} → length ds ≡ 256 → Stops t n number place
       → r ≡ record { number = number; place = place; count = 0; total = 0; records = ds } → Derives t n r
-  derives-stop number place e q =
+  derives-stop number place long e q =
       let z : number ≡ 0 → ⊥ = λ k. omega (arith, e .range) in
       rw q
       (record {
@@ -195,13 +195,14 @@ module _ (t : List ℤ) (n : ℕ) (ds : List Record) where
         is-total = λ k. absurd (z k);
         few = omega arith;
         small = (e .range .1, omega (arith, e .place));
+        long = long;
       })
 
   pub derives-done : (i params total : ℕ) {r : Verdict} → SoFar t i ds params total → i ≤ n → n ≤ i
       → r ≡ record { number = 0; place = 0; count = n; total = total; records = ds } → Derives t n r
   derives-done i params total so p q is =
       let e : i ≡ n = omega arith in
-      rw is (record { is-check = rw e at (so .checked); is-total = λ k. rw e at (so .summed); few = omega arith; small = (omega arith, omega arith) })
+      rw is (record { is-check = rw e at (so .checked); is-total = λ k. rw e at (so .summed); few = omega arith; small = (omega arith, omega arith); long = so .size })
 
 -- small steps that the loop asks for
 pub small-of : {i n : ℕ} → i ≤ n → n ≤ 256 → i ≤ 256

@@ -115,3 +115,4 @@ pub record Derives (t : List ℤ) (count : ℕ) (r : Verdict) : Type 0 where
   pub is-total : r .number ≡ 0 → r .total ≡ totalOf (recordsOf r)
   pub few : r .count ≤ count
   pub small : (r .number ≤ 12) × (r .place ≤ count)
+  pub long : length (r .records) ≡ 256

@@ -45,7 +45,7 @@ returns c =
     let p7 = p6 .before in
     let p8 = p7 .before in
     let small = small-of (p6 .loop .inv .0) (p8 .pre .1) in
-    derives-stop (p8 .args .table .now) (p8 .args .count) (p6 .loop .records) (p2 .early .result) (p6 .loop .i)
+    derives-stop (p8 .args .table .now) (p8 .args .count) (p6 .loop .records) (p2 .early .result) (p6 .loop .i) (p6 .loop .inv .2 .size)
     (stop-early (p8 .args .table .now) (p6 .loop .i) (p6 .loop .records) (p6 .loop .params) (p6 .loop .total) (p6 .loop .inv .2) small (p8 .args .count) (p5 .loop-test .taken) (p2 .early .result) (p2 .early .ensures) (p1 .if1 .taken)) (c .ended .ensures)
 
 source-place-requires : tie.Need-source-place-requires Inv-loop μ-loop
@@ -157,7 +157,7 @@ returns-2 c =
     let vc = source-view t (turn .i) (turn .records) (turn .params) (turn .total) so small _ (x .op) (p16 .used-mask .result) 3 (x .source3) (p11 .source-place3 .result) (p5 .source-record3 .result) masked (omega arith) (before .2) (p11 .source-place3 .ensures .1) (p5 .source-record3 .ensures) in
     let j = subst (λ (r : Judged). Judges x (turn .params) (viewOf (p9 .source-record .result)) (viewOf (p7 .source-record2 .result)) (viewOf (p5 .source-record3 .result)) r) (p2 .judged .given .1) (p4 .judge .ensures) in
     let number = p2 .judged .given .0 .0 in
-    derives-stop t (p21 .args .count) (turn .records) number (turn .i) (stop-late t (turn .i) (turn .records) (turn .params) (turn .total) so small x q _ _ _ va vb vc rules (p21 .args .count) (p18 .loop-test .taken) number j) (c .ended2 .ensures)
+    derives-stop t (p21 .args .count) (turn .records) number (turn .i) (so .size) (stop-late t (turn .i) (turn .records) (turn .params) (turn .total) so small x q _ _ _ va vb vc rules (p21 .args .count) (p18 .loop-test .taken) number j) (c .ended2 .ensures)
 
 enum-known-judged-2 : tie.Need-enum-known-judged-2 Inv-loop μ-loop
 enum-known-judged-2 c = search needs

@@ -1,0 +1,139 @@
+/* Time per call of the library and of plain C, in one run and on the same bytes; their answers and buffers are compared. */
+#define _POSIX_C_SOURCE 200809L
+#include "lupetzarin.h"
+#include "plain.h"
+
+#include <stdio.h>
+#include <string.h>
+#include <time.h>
+
+#define PLANS 400
+#define NODES 256
+#define WORDS 17
+#define MOST_BYTES 11778
+#define ROUNDS 200
+
+typedef struct {
+    uint8_t bytes[MOST_BYTES];
+    size_t length;
+} packed_plan;
+
+static packed_plan plans[PLANS];
+static int64_t lup_table[NODES * WORDS], plain_table[NODES * WORDS];
+static volatile uint64_t sink;
+
+/* The words beside the operation that each operation uses, by its number. */
+static const unsigned used_words[21] = {2, 9, 5, 5, 5, 5, 9, 9, 2, 2, 2, 2, 2, 2, 2, 2, 2, 2, 3, 6, 2};
+
+static uint64_t random_bits(void) {
+    static uint64_t state = 7;
+    uint64_t z = state += 0x9E3779B97F4A7C15u;
+    z = (z ^ (z >> 30)) * 0xBF58476D1CE4E5B9u;
+    z = (z ^ (z >> 27)) * 0x94D049BB133111EBu;
+    return z ^ (z >> 31);
+}
+
+static void put_number(packed_plan *p, uint64_t n) {
+    for (; n >= 128; n >>= 7) p->bytes[p->length++] = (uint8_t)(n | 128);
+    p->bytes[p->length++] = (uint8_t)n;
+}
+
+/* Any operations; of eight words five take one byte, two take up to two and one takes up to five. */
+static void mixed_plan(packed_plan *p) {
+    for (unsigned i = 0; i < NODES; i++) {
+        uint64_t op = random_bits() % 21;
+        put_number(p, op);
+        for (unsigned k = 0; k < used_words[op]; k++) {
+            uint64_t kind = random_bits() % 8;
+            put_number(p, random_bits() % (kind < 5 ? 128u : kind < 7 ? 16384u : (uint64_t)1 << 35));
+        }
+    }
+}
+
+/* One operation, whose words take as many bits each. */
+static void uniform_plan(packed_plan *p, unsigned op, unsigned bits) {
+    uint64_t least = (uint64_t)1 << (bits - 1);
+    for (unsigned i = 0; i < NODES; i++) {
+        put_number(p, op);
+        for (unsigned k = 0; k < used_words[op]; k++) put_number(p, least + random_bits() % least);
+    }
+}
+
+static void add_plan(packed_plan *p) { uniform_plan(p, 9, 7); }
+static void short_pad_plan(packed_plan *p) { uniform_plan(p, 6, 7); }
+static void long_pad_plan(packed_plan *p) { uniform_plan(p, 6, 35); }
+
+/* Packs all plans; their average length. */
+static size_t pack_plans(void (*body)(packed_plan *)) {
+    size_t total = 0;
+    for (unsigned i = 0; i < PLANS; i++) {
+        plans[i].length = 0;
+        put_number(&plans[i], NODES);
+        body(&plans[i]);
+        total += plans[i].length;
+    }
+    return total / PLANS;
+}
+
+static double now(void) {
+    struct timespec t;
+    clock_gettime(CLOCK_MONOTONIC, &t);
+    return (double)t.tv_sec * 1e6 + (double)t.tv_nsec * 1e-3;
+}
+
+static double lup_unpack_round(void) {
+    double start = now();
+    for (unsigned i = 0; i < PLANS; i++) sink += lup_unpack(plans[i].bytes, plans[i].length, lup_table, NODES * WORDS).count;
+    return now() - start;
+}
+
+static double plain_unpack_round(void) {
+    double start = now();
+    for (unsigned i = 0; i < PLANS; i++) sink += plain_unpack(plans[i].bytes, plans[i].length, plain_table, NODES * WORDS).count;
+    return now() - start;
+}
+
+/* Whether both accept every plan and write the same table. */
+static int unpack_agrees(void) {
+    for (unsigned i = 0; i < PLANS; i++) {
+        memset(lup_table, 1, sizeof lup_table);
+        memset(plain_table, 2, sizeof plain_table);
+        lup_answer a = lup_unpack(plans[i].bytes, plans[i].length, lup_table, NODES * WORDS);
+        plain_answer b = plain_unpack(plans[i].bytes, plans[i].length, plain_table, NODES * WORDS);
+        if (a.number != 0 || a.place != 0 || a.count != NODES) return 0;
+        if (a.number != b.number || a.place != b.place || a.count != b.count) return 0;
+        if (memcmp(lup_table, plain_table, sizeof lup_table) != 0) return 0;
+    }
+    return 1;
+}
+
+static void row(const char *what, size_t length, double (*lup)(void), double (*plain)(void)) {
+    double best_lup = lup(), best_plain = plain();
+    for (unsigned r = 1; r < ROUNDS; r++) {
+        double a = lup(), b = plain();
+        if (a < best_lup) best_lup = a;
+        if (b < best_plain) best_plain = b;
+    }
+    printf("| %s | %zu | %.2f | %.2f | %.2f |\n", what, length, best_lup / PLANS, best_plain / PLANS, best_lup / best_plain);
+}
+
+/* One row of the table; 0 where library and plain C differ. */
+static int unpack_row(const char *what, void (*body)(packed_plan *)) {
+    size_t length = pack_plans(body);
+    if (!unpack_agrees()) {
+        printf("bench: %s: library and plain C differ\n", what);
+        return 0;
+    }
+    row(what, length, lup_unpack_round, plain_unpack_round);
+    return 1;
+}
+
+int main(void) {
+    printf("%d plans of %d nodes, best of %d rounds, microseconds a plan\n\n", PLANS, NODES, ROUNDS);
+    printf("| call | bytes a plan | library | plain C | ratio |\n|---|---|---|---|---|\n");
+    int agree = unpack_row("unpack, any operations and words", mixed_plan);
+    agree &= unpack_row("unpack, ADD, words of one byte", add_plan);
+    agree &= unpack_row("unpack, PAD, words of one byte", short_pad_plan);
+    agree &= unpack_row("unpack, PAD, words of five bytes", long_pad_plan);
+    return !agree;
+}

@@ -1,0 +1,14 @@
+/* The same work in plain C, for comparison: written for speed and without proofs. */
+#ifndef PLAIN_H
+#define PLAIN_H
+
+#include <stddef.h>
+#include <stdint.h>
+
+typedef struct {
+    uint64_t number, place, count;
+} plain_answer;
+
+plain_answer plain_unpack(const uint8_t *bytes, size_t nbytes, int64_t *table, size_t nwords);
+
+#endif

@@ -1,0 +1,131 @@
+// The check of a plan: its answer and what it writes.
+ghost use mathlib.Core.Path.{_≡_};
+ghost use mathlib.Core.Bool.{cond};
+ghost use mathlib.Core.List.{[], _∷_, map};
+ghost use Prim.Native.Nat.{ℕ, _+_, _*_, _≤_};
+ghost use lib.Dec.{eqb};
+ghost use lib.ListN.{length, take};
+ghost use lib.Seq.{sets};
+ghost use Rattle.laws.specs.Lists.{concat};
+ghost use Rattle.verifier.specs.Check.{lengthRight, derivedWords, check, checkAnswer, derivedAfter, unpackCheck, codeOf};
+ghost use Rattle.verifier.specs.Code.{viewOf};
+ghost use Rattle.checking.specs.Verdicts.{Ends, codeIn};
+use codec::Plan;
+use verifier::Record;
+use verifier::Verdict;
+
+// Rule 1: 1 to 256 nodes of 17 words.
+fn length_right(table: &[i64]) -> bool
+    ensures { λ r. ⌜ r ≡ lengthRight (now (table .entry)) ⌝ }
+{
+    let words = table.len();
+    let count = words / 17;
+    (words % 17 == 0) & ((1 <= count) & (count <= 256))
+}
+
+// Rules 1 to 12.
+pub fn verdict(table: &[i64]) -> Verdict
+    ensures { λ r. ⌜ Ends (now (table .entry)) r ⌝ }
+{
+    if !length_right(table) {
+        let none = verifier::blank();
+        return verifier::ended(1, 0, 0, 0, [none; 256]);
+    }
+    let r = verifier::derive(table, table.len() / 17);
+    if r.number == 0 {
+        if 4194304 < r.total {
+            let records = r.records;
+            return verifier::ended(12, 0, 0, 0, records);
+        }
+    }
+    r
+}
+
+// A word of a shape row: 0 after a 0.
+fn after(before: u32, n: u32) -> u32
+    ensures { λ r. ⌜ r ≡ cond (eqb before 0) 0 n ⌝ }
+{
+    if before == 0 { 0 } else { n }
+}
+
+// Four words from place `at` on.
+fn write_four(derived: &mut [i64], at: usize, a: i64, b: i64, c: i64, d: i64)
+    requires { ⌜ at + 4 ≤ length (now derived) ⌝ }
+    ensures { λ _. ⌜ now (derived .exit) ≡ sets (now (derived .entry)) at (a ∷ b ∷ c ∷ d ∷ []) ⌝ }
+{
+    derived[at] = a;
+    derived[at + 1] = b;
+    derived[at + 2] = c;
+    derived[at + 3] = d;
+}
+
+// A node's record as eight words from place `at` on.
+fn write_record(r: Record, derived: &mut [i64], at: usize)
+    requires { ⌜ at + 8 ≤ length (now derived) ⌝ }
+    ensures { λ _. ⌜ now (derived .exit) ≡ sets (now (derived .entry)) at (derivedWords (viewOf r)) ⌝ }
+{
+    let n0 = r.extents.n0;
+    let n1 = after(n0, r.extents.n1);
+    let n2 = after(n1, r.extents.n2);
+    let n3 = after(n2, r.extents.n3);
+    let ends = bounds::wide(r.bounds);
+    write_four(
+        derived,
+        at,
+        r.dtype as i64,
+        r.device as i64,
+        ends.low,
+        ends.high,
+    );
+    write_four(derived, at + 4, n0 as i64, n1 as i64, n2 as i64, n3 as i64);
+}
+
+// The first `count` records, eight words each.
+fn write_records(records: [Record; 256], count: usize, derived: &mut [i64])
+    requires { ⌜ (count ≤ 256) × (8 * count ≤ length (now derived)) ⌝ }
+    ensures { λ _. ⌜ now (derived .exit) ≡ sets (now (derived .entry)) 0 (concat (map derivedWords (map viewOf (take count records)))) ⌝ }
+{
+    let mut i = 0;
+    while i < count {
+        write_record(records[i], derived, 8 * i);
+        i += 1;
+    }
+}
+
+// The check of a plan, and what was derived of its nodes, eight words each; where it is refused, `derived` stays as it was.
+pub fn check(table: &[i64], derived: &mut [i64]) -> plan::Answer
+    ensures { λ r. ⌜ (r ≡ checkAnswer (check (now (table .entry)) (length (now (derived .entry))))) × (now (derived .exit) ≡ derivedAfter (check (now (table .entry)) (length (now (derived .entry)))) (now (derived .entry))) ⌝ }
+{
+    let r = verdict(table);
+    if r.number != 0 {
+        return plan::refused(r.number as u64, r.place as u64);
+    }
+    if derived.len() < 8 * r.count {
+        return plan::refused(14, 0);
+    }
+    let records = r.records;
+    write_records(records, r.count, derived);
+    plan::accepted(0)
+}
+
+// The node count or, refused, 65536 times the number plus the place.
+fn code(r: Verdict) -> u64
+    requires { ⌜ (r .number ≤ 12) × (r .place ≤ 256) ⌝ }
+    ensures { λ c. ⌜ c ≡ codeIn r ⌝ }
+{
+    if r.number == 0 {
+        return r.count as u64;
+    }
+    65536 * (r.number as u64) + (r.place as u64)
+}
+
+// A packed plan, unpacked and checked in one call.
+pub fn unpack_check(bytes: &[u8]) -> u64
+    ensures { λ r. ⌜ r ≡ codeOf (unpackCheck (now (bytes .entry))) ⌝ }
+{
+    let mut table = [0i64; 4352];
+    match codec::read_plan(bytes, &mut table) {
+        Plan::Stop(number, place) => 65536 * (number as u64) + (place as u64),
+        Plan::Nodes(count) => code(verdict(&table[0..17 * count])),
+    }
+}

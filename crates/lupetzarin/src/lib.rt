@@ -1,0 +1,29 @@
+// The C library: each export is one call of the proved crate behind it. `include/lupetzarin.h` declares them.
+ghost use mathlib.Core.Path.{_≡_};
+ghost use lib.ListN.{length};
+ghost use Rattle.codec.specs.Plans.{unpack, unpackAnswer, tableAfter};
+ghost use Rattle.verifier.specs.Check.{check, checkAnswer, derivedAfter, unpackCheck, codeOf};
+
+// A packed plan into a table, which stays as it was where the plan is refused.
+#[no_mangle]
+pub extern "C" fn lup_unpack(bytes: &[u8], table: &mut [i64]) -> plan::Answer
+    ensures { λ r. ⌜ (r ≡ unpackAnswer (unpack (now (bytes .entry)) (length (now (table .entry))))) × (now (table .exit) ≡ tableAfter (unpack (now (bytes .entry)) (length (now (table .entry)))) (now (table .entry))) ⌝ }
+{
+    codec::unpack(bytes, table)
+}
+
+// The check of a plan and eight words a node into `derived`, which stays as it was where the plan is refused.
+#[no_mangle]
+pub extern "C" fn lup_check(table: &[i64], derived: &mut [i64]) -> plan::Answer
+    ensures { λ r. ⌜ (r ≡ checkAnswer (check (now (table .entry)) (length (now (derived .entry))))) × (now (derived .exit) ≡ derivedAfter (check (now (table .entry)) (length (now (derived .entry)))) (now (derived .entry))) ⌝ }
+{
+    checking::check(table, derived)
+}
+
+// A packed plan, unpacked and checked: the node count or, refused, 65536 times the number plus the place.
+#[no_mangle]
+pub extern "C" fn lup_unpack_check(bytes: &[u8]) -> u64
+    ensures { λ r. ⌜ r ≡ codeOf (unpackCheck (now (bytes .entry))) ⌝ }
+{
+    checking::unpack_check(bytes)
+}

@@ -1,0 +1,43 @@
+/* Lupetzarin: plans over whole numbers with gaps, unpacked and checked by proved code.
+ *
+ * Every call answers for any bytes and any buffers; nothing is undefined as long as the caller keeps these:
+ *   - a pointer and its length describe memory that the call may read (const) or write; where the length is 0 the pointer may be NULL;
+ *   - int64_t buffers are aligned to 8 bytes;
+ *   - a buffer that a call writes overlaps no other buffer of that call.
+ * A refusal gives its number and its place and leaves every buffer as it was. The library keeps no state and allocates nothing;
+ * calls may be made from several threads at once. Of the C library it uses memcpy and memset alone. Stack that a call uses: see each call.
+ */
+#ifndef LUPETZARIN_H
+#define LUPETZARIN_H
+
+#include <stddef.h>
+#include <stdint.h>
+
+#ifdef __cplusplus
+extern "C" {
+#endif
+
+/* number: 0 accepted, else the refusal; place: the byte or the node of the refusal, 0 where none is named; count: what the call counts, 0 on a refusal. */
+typedef struct {
+    uint64_t number, place, count;
+} lup_answer;
+
+/* Unpacks a packed plan into table, 17 words a node; words past them stay as they were. count: the nodes, 1..256. Refusals, in order: 20, 21
+ * and 23 of the node count; 14, table has fewer than 17 words a node; 20, 21 and 24 in byte order; 22.
+ * Stack: a frame of 35,056 bytes; memcpy, memset and, on a first call, their lazy binding took 3,136 more with glibc on x86-64. 48 KiB is enough. */
+lup_answer lup_unpack(const uint8_t *bytes, size_t nbytes, int64_t *table, size_t nwords);
+
+/* Checks a plan and writes what is derived of its nodes, eight words each: type, device, low, high, four extents with zeros past the rank; words
+ * past them stay as they were. count: 0. Refusals, in order: 1, the length; 2 to 11, the first node that breaks a rule (place: that node) and
+ * its first rule; 12, too many elements together; 14, derived has fewer than 8 words a node. STACK_OF_CHECK */
+lup_answer lup_check(const int64_t *table, size_t nwords, int64_t *derived, size_t nderived);
+
+/* Unpacks and checks in one call. The answer is the node count, 1..256, or, refused, 65536 times the number plus the place: a refusal of
+ * lup_unpack with room for every plan, or of lup_check. STACK_OF_UNPACK_CHECK */
+uint64_t lup_unpack_check(const uint8_t *bytes, size_t nbytes);
+
+#ifdef __cplusplus
+}
+#endif
+
+#endif

@@ -1,0 +1,101 @@
+"""The shared object behind the C header, for tests: buffers hold a pattern between guards and are compared whole."""
+
+import ctypes
+import mmap
+import os
+import re
+import subprocess
+
+ROOT = os.path.dirname(os.path.dirname(os.path.dirname(os.path.abspath(__file__))))
+SHARED_OBJECT = os.path.join(ROOT, 'build', 'liblupetzarin.so')
+HEADER = os.path.join(ROOT, 'include', 'lupetzarin.h')
+WORDS = ctypes.POINTER(ctypes.c_int64)
+GUARD = [-7] * 16
+
+
+class Answer(ctypes.Structure):
+    _fields_ = [('number', ctypes.c_uint64), ('place', ctypes.c_uint64), ('count', ctypes.c_uint64)]
+
+    def triple(self):
+        return self.number, self.place, self.count
+
+
+class Bytes:
+    """Input bytes that end where a page begins that cannot be read: reading past them ends the process."""
+
+    def __init__(self, most=16384):
+        self.size = -(-most // mmap.PAGESIZE) * mmap.PAGESIZE
+        self.memory = mmap.mmap(-1, self.size + mmap.PAGESIZE)
+        self.end = ctypes.addressof(ctypes.c_char.from_buffer(self.memory)) + self.size
+        libc = ctypes.CDLL(None, use_errno=True)
+        if libc.mprotect(ctypes.c_void_p(self.end), ctypes.c_size_t(mmap.PAGESIZE), 0):
+            raise OSError(ctypes.get_errno(), 'mprotect')
+
+    def put(self, data):
+        """The address of the bytes."""
+        self.memory[self.size - len(data):self.size] = data
+        return self.end - len(data)
+
+    def hold(self, data):
+        return self.memory[self.size - len(data):self.size] == data
+
+
+class Table:
+    """Words between guards."""
+
+    def __init__(self, words):
+        self.room = len(words)
+        guarded = GUARD + words + GUARD
+        self.memory = (ctypes.c_int64 * len(guarded))(*guarded)
+        self.start = ctypes.cast(ctypes.byref(self.memory, 8 * len(GUARD)), WORDS)
+
+    def words(self):
+        return self.memory[len(GUARD):len(GUARD) + self.room]
+
+    def guards_hold(self):
+        return self.memory[:len(GUARD)] == GUARD and self.memory[len(GUARD) + self.room:] == GUARD
+
+
+def declared():
+    """The calls that the header declares."""
+    with open(HEADER, encoding='utf-8') as header:
+        return set(re.findall(r'\b(lup_\w+)\(', header.read()))
+
+
+def exported():
+    """The symbols that the shared object defines."""
+    listed = subprocess.run(['nm', '-D', '--defined-only', SHARED_OBJECT], check=True, capture_output=True, text=True)
+    return {line.split()[-1] for line in listed.stdout.splitlines()}
+
+
+class Library:
+    def __init__(self):
+        self.calls = ctypes.CDLL(SHARED_OBJECT)
+        self.calls.lup_unpack.argtypes = [ctypes.c_void_p, ctypes.c_size_t, WORDS, ctypes.c_size_t]
+        self.calls.lup_unpack.restype = Answer
+        self.calls.lup_check.argtypes = [WORDS, ctypes.c_size_t, WORDS, ctypes.c_size_t]
+        self.calls.lup_check.restype = Answer
+        self.calls.lup_unpack_check.argtypes = [ctypes.c_void_p, ctypes.c_size_t]
+        self.calls.lup_unpack_check.restype = ctypes.c_uint64
+        self.bytes = Bytes()
+
+    def unpack(self, data, words, null=False):
+        """The answer, the table afterwards, and whether all else is as it was. null: NULL where a length is 0."""
+        table = Table(words)
+        source = None if null and not data else self.bytes.put(data)
+        target = None if null and not words else table.start
+        answer = self.calls.lup_unpack(source, len(data), target, table.room).triple()
+        return answer, table.words(), table.guards_hold() and self.bytes.hold(data)
+
+    def check(self, plan, words, null=False):
+        """The same of a check of the plan's table: what it writes is the derived words."""
+        table, derived = Table(plan), Table(words)
+        source = None if null and not plan else table.start
+        target = None if null and not words else derived.start
+        answer = self.calls.lup_check(source, table.room, target, derived.room).triple()
+        return answer, derived.words(), table.guards_hold() and table.words() == plan and derived.guards_hold()
+
+    def unpack_check(self, data, null=False):
+        """The answer, and whether the bytes are as they were."""
+        source = None if null and not data else self.bytes.put(data)
+        return self.calls.lup_unpack_check(source, len(data)), self.bytes.hold(data)

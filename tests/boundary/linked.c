@@ -1,0 +1,94 @@
+/* Links the archive through the header and calls each export on the worked examples. Last line: 'N passed, 0 failed'. */
+#include "lupetzarin.h"
+
+#include <stdio.h>
+
+#define ROOM 18
+#define PATTERN 1000
+
+static unsigned passed, failed;
+
+static void expect(int holds, const char *what) {
+    if (holds) {
+        passed++;
+    } else {
+        failed++;
+        printf("does not hold: %s\n", what);
+    }
+}
+
+static int answers(lup_answer a, uint64_t number, uint64_t place, uint64_t count) {
+    return a.number == number && a.place == place && a.count == count;
+}
+
+static void fill(int64_t *table) {
+    for (size_t k = 0; k < ROOM; k++) table[k] = PATTERN + (int64_t)k;
+}
+
+/* Whether the words from `from` on are as fill left them. */
+static int stays(const int64_t *table, size_t from) {
+    for (size_t k = from; k < ROOM; k++)
+        if (table[k] != PATTERN + (int64_t)k) return 0;
+    return 1;
+}
+
+/* Whether the table holds one node, CONST of that i16 number, with the word after it as it was. */
+static int holds_const(const int64_t *table, int64_t number) {
+    for (size_t k = 0; k < 17; k++)
+        if (table[k] != (k == 4 ? 2 : k == 5 ? number : 0)) return 0;
+    return stays(table, 17);
+}
+
+static void unpack_examples(void) {
+    static const uint8_t five[] = {0x01, 0x00, 0x04, 0x0A}, three_hundred[] = {0x01, 0x00, 0x04, 0xD8, 0x04};
+    int64_t table[ROOM];
+
+    fill(table);
+    expect(answers(lup_unpack(five, sizeof five, table, ROOM), 0, 0, 1), "01 00 04 0A: one node");
+    expect(holds_const(table, 5), "01 00 04 0A: CONST 5 of type 2");
+
+    fill(table);
+    expect(answers(lup_unpack(three_hundred, sizeof three_hundred, table, ROOM), 0, 0, 1), "D8 04: one node");
+    expect(holds_const(table, 300), "D8 04: 300");
+
+    fill(table);
+    expect(answers(lup_unpack(NULL, 0, table, ROOM), 20, 0, 0), "empty bytes: refused 20 at 0");
+    expect(stays(table, 0), "empty bytes: the table as it was");
+    expect(answers(lup_unpack(NULL, 0, NULL, 0), 20, 0, 0), "empty bytes, no table: refused 20 at 0");
+
+    expect(answers(lup_unpack(five, sizeof five, table, 16), 14, 0, 0), "16 words for a node: refused 14");
+    expect(stays(table, 0), "16 words for a node: the table as it was");
+    expect(answers(lup_unpack(five, sizeof five, NULL, 0), 14, 0, 0), "no table: refused 14");
+}
+
+/* One CONST of type 2 holding 5 */
+static void check_examples(void) {
+    static const uint8_t five[] = {0x01, 0x00, 0x04, 0x0A};
+    int64_t table[17] = {0}, derived[ROOM];
+
+    table[4] = 2;
+    table[5] = 5;
+    fill(derived);
+    expect(answers(lup_check(table, 17, derived, ROOM), 0, 0, 0), "a CONST: accepted");
+    expect(derived[0] == 2 && derived[1] == 0 && derived[2] == 5 && derived[3] == 5, "a CONST: its type, no device, its number twice");
+    expect(derived[4] == 0 && derived[7] == 0 && stays(derived, 8), "a CONST: no extents, and the words after it as they were");
+
+    fill(derived);
+    expect(answers(lup_check(table, 17, derived, 7), 14, 0, 0), "7 words for a record: refused 14");
+    expect(answers(lup_check(table, 16, derived, ROOM), 1, 0, 0), "16 words of table: refused 1");
+    expect(answers(lup_check(NULL, 0, NULL, 0), 1, 0, 0), "no table: refused 1");
+    table[5] = 40000;
+    expect(!answers(lup_check(table, 17, derived, ROOM), 0, 0, 0), "40000 in 16 bits: refused");
+    expect(stays(derived, 0), "refused: the words as they were");
+
+    expect(lup_unpack_check(five, sizeof five) == 1, "01 00 04 0A: one node");
+    expect(lup_unpack_check(NULL, 0) == 20 * 65536, "empty bytes: 20 at 0");
+    expect(lup_unpack_check(five, 3) == 20 * 65536 + 3, "cut off: 20 at 3");
+}
+
+int main(void) {
+    unpack_examples();
+    check_examples();
+    printf("%u passed, %u failed\n", passed, failed);
+    return failed != 0;
+}

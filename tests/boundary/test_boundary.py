@@ -1,0 +1,233 @@
+#!/usr/bin/env python3
+"""Drives each export of the shared object against the independent model: answers, and buffers compared whole.
+
+usage: test_boundary.py [COUNT] [SEED]     last line: 'N passed, 0 failed'
+"""
+
+import collections
+import faulthandler
+import os
+import sys
+from random import Random
+
+sys.dont_write_bytecode = True
+HERE = os.path.dirname(os.path.abspath(__file__))
+sys.path[:0] = [HERE, os.path.join(os.path.dirname(HERE), 'model')]
+
+import cases  # noqa: E402
+import model  # noqa: E402
+from library import Library, declared, exported  # noqa: E402
+
+# The ends of packed numbers of one to five bytes.
+NUMBER_ENDS = sorted({128 ** k + d for k in range(6) for d in (-1, 0, 1) if 0 <= 128 ** k + d < 2 ** 35})
+WORD_ENDS = [model.word_of(m) for m in NUMBER_ENDS]
+BYTE_ENDS = (0, 1, 2, 20, 21, 127, 128, 129, 148, 254, 255)
+
+
+class Tally:
+    def __init__(self):
+        self.passed, self.failed = 0, 0
+
+    def same(self, what, got, wanted):
+        if got == wanted:
+            self.passed += 1
+            return
+        self.failed += 1
+        if self.failed <= 20:
+            print(('%s: got %r, wanted %r' % (what, got, wanted))[:600])
+
+
+def pattern(room):
+    return [-0x5a5a5a5a5a5a5a5a + k for k in range(room)]
+
+
+# ---------------------------------------------------------------- unpack
+
+def random_table(rng, nodes):
+    """Any operations with any words that a packed plan can hold; no other rule is asked."""
+    table = []
+    for _ in range(nodes):
+        op = rng.randrange(21)
+        words = {w: rng.choice(WORD_ENDS) if rng.random() < 0.3 else model.word_of(rng.getrandbits(rng.randint(1, 35)))
+                 for w in model.USED_WORDS[op]}
+        table += cases.node(op, words)
+    return table
+
+
+def damaged(rng, data):
+    """The bytes with one to three changed, put in, taken out, cut off or appended."""
+    data = bytearray(data)
+    for _ in range(rng.randint(1, 3)):
+        way, at = rng.randrange(5), rng.randrange(len(data) + 1)
+        if way == 0 and data:
+            data[at % len(data)] = rng.randrange(256)
+        elif way == 1:
+            data.insert(at, rng.choice(BYTE_ENDS))
+        elif way == 2 and data:
+            del data[at % len(data)]
+        elif way == 3:
+            del data[at:]
+        else:
+            data += rng.randbytes(rng.randint(1, 3))
+    return bytes(data)
+
+
+def needed(data):
+    """The words that a table needs for the bytes' node count; one node's where there is no such count."""
+    try:
+        count = model.read_number(data, 0)[0]
+    except model.Refused:
+        count = 1
+    return model.NODE_WORDS * min(max(count, 1), model.MOST_NODES)
+
+
+def fixed_bytes():
+    """Bytes at the ends of each rule, whatever the seed."""
+    every = sum((cases.node(op, {w: (7 * op + w) * (-1) ** w for w in model.USED_WORDS[op]}) for op in range(21)), [])
+    data = cases.pack(every)
+    yield from cases.FIXED_BYTES
+    yield from (data[:cut] for cut in range(len(data) + 1))
+    yield from (data[:at] + bytes([end]) + data[at + 1:] for at in range(len(data)) for end in BYTE_ENDS)
+    for number in NUMBER_ENDS:
+        count = cases.number_bytes(number)
+        padded = count[:-1] + bytes([count[-1] + 128, 0])
+        for written in (count, padded, count[:-1], count[:-1] + bytes([count[-1] + 128])):
+            yield written + bytes.fromhex('00040a')
+            yield b'\x01' + written + bytes.fromhex('040a')
+            yield bytes.fromhex('010004') + written
+    for nodes in (1, 127, 128, 255, 256, 257):
+        yield cases.pack(cases.const(2, 300) * nodes)
+        yield cases.pack(cases.const(2, 300) * nodes)[:-1]
+    for low_or_high in (-2 ** 34, 2 ** 34 - 1):
+        yield cases.pack(cases.node(model.PAD, dict.fromkeys(model.USED_WORDS[model.PAD], low_or_high)) * 256)
+
+
+def unpack_inputs(rng, count):
+    """(bytes, room): fixed bytes with each room; then random plans, three of four damaged."""
+    for data in fixed_bytes():
+        for room in (needed(data), needed(data) - 1, needed(data) + 5, 0):
+            yield data, room
+    yield from cases.ORDERED_BYTES
+    for turn in range(count):
+        nodes = rng.choice((1, 1, 2, 3, 5, 8, 13)) if turn % 100 else rng.choice((127, 128, 255, 256))
+        data = cases.pack(random_table(rng, nodes))
+        data = damaged(rng, data) if turn % 4 else data
+        room = needed(data)
+        yield data, rng.choice((room, room, room, room, room - 1, room + 1, room + rng.randint(2, 60), rng.randrange(room), 0))
+
+
+def test_unpack(tally, library, rng, count):
+    met = collections.Counter()
+    for data, room in unpack_inputs(rng, count):
+        wanted = pattern(room)
+        answer = model.unpack(data, wanted)
+        met[answer.number] += 1
+        for null in ((False, True) if room == 0 or not data else (False,)):
+            got = library.unpack(data, pattern(room), null)
+            tally.same(('unpack', data.hex(), room, null), got, (tuple(answer), wanted, True))
+    print('unpack answers met:', ', '.join('%d: %d times' % item for item in sorted(met.items())))
+    tally.same('unpack answers met', sorted(met), [0, 14, 20, 21, 22, 23, 24])
+
+
+# ---------------------------------------------------------------- check
+
+# What every word of every operation is set to, one at a time.
+WORD_SWEEP = sorted({*cases.EDGES, *range(-6, 7), *(s * 2 ** k + d for s in (-1, 1) for k in (7, 8, 15, 16, 31, 32, 33, 62) for d in (-1, 0, 1)),
+                     -2 ** 63, 2 ** 63 - 1})
+
+
+def swept():
+    """(table, room): a valid node of each operation after its sources, each of its words set to each value of the sweep."""
+    for op in range(model.LOAD + 1):
+        table = cases.draft(op, cases.DRAFTS[op][0])
+        for word in range(len(table) - model.NODE_WORDS, len(table)):
+            for value in WORD_SWEEP:
+                yield table[:word] + [value] + table[word + 1:], 8 * (len(table) // model.NODE_WORDS)
+
+
+def tables_of(seed, scale):
+    """The tables of the model's cases: valid plans, near misses, pairs of broken rules, limits."""
+    for case in cases.all_cases(seed, scale):
+        if case.call in ('check', 'run', 'lookup'):
+            yield list(case.args[0])
+
+
+def changed(rng, table):
+    """The table with one to three words changed, or cut, or with a node twice."""
+    table = list(table)
+    for _ in range(rng.randint(1, 3)):
+        way = rng.randrange(8)
+        if way == 0:
+            del table[rng.randrange(len(table) + 1):]
+        elif way == 1:
+            table += table[:model.NODE_WORDS]
+        elif table:
+            table[rng.randrange(len(table))] = rng.choice((rng.choice(cases.EDGES), rng.randint(-3, 9)))
+    return table
+
+
+def check_inputs(rng, scale):
+    """(table, room): the sweep; then each table as it is, and changed, with a room that fits, falls short or is larger."""
+    yield from swept()
+    for table in tables_of(rng.randrange(2 ** 32), scale):
+        for plan in (table, changed(rng, table)):
+            words = 8 * (len(plan) // model.NODE_WORDS)
+            yield plan, words
+            yield plan, rng.choice((words + rng.randint(1, 20), max(words - 1, 0), rng.randint(0, words), 0))
+
+
+def test_check(tally, library, rng, count):
+    met = collections.Counter()
+    for plan, room in check_inputs(rng, count / 10000):
+        wanted = pattern(room)
+        answer = model.check(plan, wanted)
+        met[answer.number] += 1
+        for null in ((False, True) if room == 0 or not plan else (False,)):
+            got = library.check(plan, pattern(room), null)
+            tally.same(('check', plan, room, null), got, (tuple(answer), wanted, True))
+    print('check answers met:', ', '.join('%d: %d times' % item for item in sorted(met.items())))
+    tally.same('check answers met', sorted(met), [*range(13), 14])
+
+
+# ---------------------------------------------------------------- unpack and check
+
+def packed_inputs(rng, count):
+    yield from (data for data, _ in unpack_inputs(rng, count // 4))
+    for table in tables_of(rng.randrange(2 ** 32), count / 20000):
+        if table and len(table) % model.NODE_WORDS == 0 and all(0 <= op < 21 for op in table[::model.NODE_WORDS]):
+            data = cases.pack(table)
+            yield data
+            yield damaged(rng, data)
+
+
+def test_unpack_check(tally, library, rng, count):
+    met = collections.Counter()
+    for data in packed_inputs(rng, count):
+        if len(data) > library.bytes.size:
+            continue
+        wanted = model.unpack_check(data)
+        met[wanted // 65536] += 1
+        for null in ((False, True) if not data else (False,)):
+            tally.same(('unpack_check', data.hex(), null), library.unpack_check(data, null), (wanted, True))
+    print('unpack_check answers met:', ', '.join('%d: %d times' % item for item in sorted(met.items())))
+    tally.same('unpack_check answers met', sorted(met), [0, 4, 5, 6, 7, 8, 9, 10, 11, 12, 20, 21, 22, 23, 24])
+
+
+TESTS = {'lup_unpack': test_unpack, 'lup_check': test_check, 'lup_unpack_check': test_unpack_check}
+
+
+def main():
+    faulthandler.enable()
+    count = int(sys.argv[1]) if len(sys.argv) > 1 else 20000
+    rng = Random(int(sys.argv[2]) if len(sys.argv) > 2 else 7)
+    tally, library = Tally(), Library()
+    tally.same('the calls that the header declares', declared(), set(TESTS))
+    tally.same('the calls that the library exports', exported(), set(TESTS))
+    for test in TESTS.values():
+        test(tally, library, rng, count)
+    print('%d passed, %d failed' % (tally.passed, tally.failed))
+    sys.exit(tally.failed != 0)
+
+
+if __name__ == '__main__':
+    main()
