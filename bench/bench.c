@@ -20,6 +20,7 @@ typedef struct {
 
 static packed_plan plans[PLANS];
 static int64_t lup_table[NODES * WORDS], plain_table[NODES * WORDS];
+static int64_t tables[PLANS][NODES * WORDS], lup_derived[NODES * 8], plain_derived[NODES * 8];
 static volatile uint64_t sink;
 
 /* The words beside the operation that each operation uses, by its number. */
@@ -128,6 +129,67 @@ static int unpack_row(const char *what, void (*body)(packed_plan *)) {
     return 1;
 }
 
+/* ---- the check ---- */
+
+/* Words 1 to 16 of a valid node of each operation but PARAM, after the five PARAMs of `params`. */
+static const int64_t nodes[20][WORDS] = {
+    {0, 0, 0, 0, 2, 300}, {2, 0, 0, 0, 0, 0, 0, 0, 0, 1, 0}, {3, 0, 0, 0, 0, 0, 0, 0, 0, 1, 0}, {4, 0, 0, 0, 0, 0, 0, 0, 0, 8, 2, 2},
+    {5, 2, 0, 0, 0, 0, 0, 0, 0, 4, 8}, {6, 0, 0, 0, 0, 0, 0, 0, 0, 6, 9, 0, 0, 1, 1}, {7, 0, 0, 0, 0, 0, 0, 0, 0, 2, 3, 0, 0, 1, 4},
+    {8, 0, 0, 0, 3}, {9, 0, 2}, {10, 0, 3}, {11, 0, 0}, {12, 0, 3}, {13, 0, 3}, {14, 0, 2}, {15, 0, 0}, {16, 1, 4}, {17, 1, 4}, {18, 1, 0, 2},
+    {19, 0, 0, 0, 0, 0, 0, 0, 0, 1, 0}, {20, 0, 0, 0, 0, 0, 9},
+};
+static const int64_t params[5][WORDS] = {
+    {1, 0, 0, 0, 3, 0, 1, -100, 100, 4, 8}, {1, 0, 0, 0, 0, 1, 1, 0, 1, 4, 8}, {1, 0, 0, 0, 3, 2, 1, -9, 9, 1, 8},
+    {1, 0, 0, 0, 3, 3, 1, 1, 9, 8}, {1, 0, 0, 0, 0, 4, 1, 0, 1, 4, 1},
+};
+
+/* Valid plans: the PARAMs, then nodes of any operations. */
+static void any_tables(void) {
+    for (unsigned i = 0; i < PLANS; i++)
+        for (unsigned n = 0; n < NODES; n++) memcpy(tables[i] + n * WORDS, n < 5 ? params[n] : nodes[random_bits() % 20], sizeof params[0]);
+}
+
+/* Valid plans: the PARAMs, then ADDs that are broadcast. */
+static void add_tables(void) {
+    for (unsigned i = 0; i < PLANS; i++)
+        for (unsigned n = 0; n < NODES; n++) memcpy(tables[i] + n * WORDS, n < 5 ? params[n] : nodes[8], sizeof params[0]);
+}
+
+static double lup_check_round(void) {
+    double start = now();
+    for (unsigned i = 0; i < PLANS; i++) sink += lup_check(tables[i], NODES * WORDS, lup_derived, NODES * 8).number;
+    return now() - start;
+}
+
+static double plain_check_round(void) {
+    double start = now();
+    for (unsigned i = 0; i < PLANS; i++) sink += plain_check(tables[i], NODES * WORDS, plain_derived, NODES * 8).number;
+    return now() - start;
+}
+
+/* Whether both accept every plan and derive the same words. */
+static int check_agrees(void) {
+    for (unsigned i = 0; i < PLANS; i++) {
+        memset(lup_derived, 1, sizeof lup_derived);
+        memset(plain_derived, 2, sizeof plain_derived);
+        lup_answer a = lup_check(tables[i], NODES * WORDS, lup_derived, NODES * 8);
+        plain_answer b = plain_check(tables[i], NODES * WORDS, plain_derived, NODES * 8);
+        if (a.number != 0 || a.place != 0 || a.number != b.number || a.place != b.place) return 0;
+        if (memcmp(lup_derived, plain_derived, sizeof lup_derived) != 0) return 0;
+    }
+    return 1;
+}
+
+static int check_row(const char *what, void (*body)(void)) {
+    body();
+    if (!check_agrees()) {
+        printf("bench: %s: library and plain C differ\n", what);
+        return 0;
+    }
+    row(what, sizeof tables[0], lup_check_round, plain_check_round);
+    return 1;
+}
+
 int main(void) {
     printf("%d plans of %d nodes, best of %d rounds, microseconds a plan\n\n", PLANS, NODES, ROUNDS);
     printf("| call | bytes a plan | library | plain C | ratio |\n|---|---|---|---|---|\n");
@@ -135,5 +197,7 @@ int main(void) {
     agree &= unpack_row("unpack, ADD, words of one byte", add_plan);
     agree &= unpack_row("unpack, PAD, words of one byte", short_pad_plan);
     agree &= unpack_row("unpack, PAD, words of five bytes", long_pad_plan);
+    agree &= check_row("check, any operations", any_tables);
+    agree &= check_row("check, ADD, broadcast", add_tables);
     return !agree;
 }

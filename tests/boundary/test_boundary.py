@@ -178,7 +178,7 @@ def check_inputs(rng, scale):
 
 def test_check(tally, library, rng, count):
     met = collections.Counter()
-    for plan, room in check_inputs(rng, count / 10000):
+    for plan, room in check_inputs(rng, count / 4000):
         wanted = pattern(room)
         answer = model.check(plan, wanted)
         met[answer.number] += 1
@@ -192,8 +192,8 @@ def test_check(tally, library, rng, count):
 # ---------------------------------------------------------------- unpack and check
 
 def packed_inputs(rng, count):
-    yield from (data for data, _ in unpack_inputs(rng, count // 4))
-    for table in tables_of(rng.randrange(2 ** 32), count / 20000):
+    yield from (data for data, _ in unpack_inputs(rng, count // 2))
+    for table in tables_of(rng.randrange(2 ** 32), count / 8000):
         if table and len(table) % model.NODE_WORDS == 0 and all(0 <= op < 21 for op in table[::model.NODE_WORDS]):
             data = cases.pack(table)
             yield data

@@ -1,8 +1,8 @@
 -- The ways in which the check of a plan ends.
-use Prim.Native.Nat.{ℕ, _+_, _*_, _/_, _%_, _<_, _≤_}
-use mathlib.Core.Path.{_≡_, refl, sym, ap, _∙_}
+use Prim.Native.Nat.{ℕ, _*_, _/_, _%_, _<_, _≤_}
+use mathlib.Core.Path.{_≡_, refl, _∙_}
 use mathlib.Core.Bool.{true, false}
-use mathlib.Core.List.{List, map}
+use mathlib.Core.List.{List}
 use native.Mathlib.Omega.{arith}
 use borrow.Author.Tests.{leb-true, le-leb, lt-leb, eq-eqb, ne-eqb}
 use lib.IntN.{ℤ}
@@ -12,12 +12,12 @@ use lib.Seq.{length-take-le}
 use Rattle.laws.proofs.Booleans.{and-true}
 use Rattle.plan.specs.declared.Answer.{Answer}
 use Rattle.plan.specs.Words.{nodeCount}
-use Rattle.plan.specs.Answers.{Outcome, accepted, refused, refuse, need, andThen}
+use Rattle.plan.specs.Answers.{Outcome, accepted, refused, refuse}
 use Rattle.verifier.specs.declared.Record.{Record}
 use Rattle.verifier.specs.declared.Verdict.{Verdict}
 use Rattle.verifier.specs.Rules.{Derived}
-use Rattle.verifier.specs.Check.{lengthRight, checkTo, totalOf, verdict, check, checkAnswer, derivedAfter}
-use Rattle.verifier.specs.Code.{viewOf, recordsOf, outcomeOf, Derives}
+use Rattle.verifier.specs.Check.{lengthRight, totalOf, verdict, check, checkAnswer, derivedAfter}
+use Rattle.verifier.specs.Code.{viewOf, recordsOf, Derives}
 use Rattle.checking.specs.Verdicts.{Ends}
 
 -- a refusal of the whole plan

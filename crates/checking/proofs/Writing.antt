@@ -1,6 +1,6 @@
 -- The words that a check writes.
 use Prim.Native.Nat.{ℕ, zero, suc, _+_, _*_, _-_, _≤_, _<_}
-use mathlib.Core.Path.{_≡_, refl, sym, ap, _∙_}
+use mathlib.Core.Path.{_≡_, refl, ap, _∙_}
 use mathlib.Core.Bool.{false, cond}
 use mathlib.Core.List.{List, [], _∷_, _++_, map, map-append, append-nil}
 use native.Mathlib.Omega.{arith}
@@ -11,14 +11,14 @@ use mir.Val.{toZ}
 use mir.Facts.{toZ-pos}
 use lib.IntN.{ℤ, pos}
 use lib.Dec.{eqb}
-use lib.ListN.{length, replicate, getD, set, take, drop, length-append}
+use lib.ListN.{length, replicate, getD, set, take, length-append}
 use lib.Seq.{sets, sets-eq, length-sets, take-suc}
 use Rattle.laws.specs.Lists.{concat}
 use Rattle.laws.proofs.Lists.{concat-append}
 use Rattle.laws.proofs.Machine.{R, R-is, small-fits}
 use Rattle.plan.specs.declared.Interval.{Interval}
 use Rattle.plan.specs.Answers.{Outcome, accepted, written}
-use Rattle.codec.proofs.Storing.{sets-append, sets-more}
+use Rattle.codec.proofs.Storing.{sets-more}
 use Rattle.bounds.specs.Narrow.{Held}
 use Rattle.shapes.specs.Rows.{extentsOf}
 use Rattle.verifier.specs.declared.Record.{Record}

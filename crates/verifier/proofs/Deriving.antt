@@ -1,6 +1,6 @@
 -- The loop over the nodes: what is known before node i, and each way on from it.
-use Prim.Native.Nat.{ℕ, zero, suc, _+_, _*_, _<_, _≤_, _^_, _/_, _%_}
-use mathlib.Core.Path.{_≡_, refl, sym, ap, _∙_, subst}
+use Prim.Native.Nat.{ℕ, zero, suc, _+_, _<_, _≤_, _^_, _/_, _%_}
+use mathlib.Core.Path.{_≡_, refl, sym, ap, _∙_}
 use mathlib.Core.Bool.{Bool, true, false, _&&_, cond}
 use mathlib.Core.List.{List, [], _∷_, _++_, map, map-append}
 use native.Mathlib.Omega.{arith}
@@ -16,18 +16,16 @@ use Rattle.laws.proofs.Booleans.{bool-cases, and-true}
 use Rattle.laws.proofs.Lists.{getD-map, take-whole, sum-append}
 use Rattle.plan.specs.declared.Node.{Node}
 use Rattle.plan.specs.declared.NodeNumber.{NodeNumber}
-use Rattle.plan.specs.Operations.{PARAM, uses, masks}
+use Rattle.plan.specs.Operations.{uses, masks}
 use Rattle.plan.specs.Words.{nodeAt, overParams, paramsBefore}
 use Rattle.plan.specs.Answers.{Outcome, accepted, refuse, Rule, rule, inTurn, AllHold, FirstFailing, here, later}
 use Rattle.plan.proofs.Outcomes.{first-front, first-back, all-both, order-fails, order-holds, turn-more, turn-stays}
 use Rattle.shapes.specs.Rules.{elementLimit, shapesAgree, resultExtents}
 use Rattle.verifier.specs.declared.Record.{Record}
-use Rattle.verifier.specs.declared.Judged.{Judged}
 use Rattle.verifier.specs.declared.Judged.the-variants.{Meets, Breaks}
 use Rattle.verifier.specs.Rules.{Derived, noSource, sourceOf, derivedOf, shapeRight}
 use Rattle.verifier.specs.declared.Verdict.{Verdict}
 use Rattle.verifier.specs.Check.{first, second, third, deriveNode, nodeRules, checkNode, checkTo, countOf, totalOf}
-use Rattle.verifier.specs.Meets.{NodesMeet}
 use Rattle.verifier.specs.Code.{Masked, viewOf, earlyRulesOf, shapeRulesOf, valueRulesOf, Judges, Early, Derives}
 use Rattle.verifier.proofs.Accepted.{checked-meets}
 use Rattle.verifier.proofs.Nodes.{few-elements, source-has, sources-before}

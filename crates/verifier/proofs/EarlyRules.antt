@@ -5,16 +5,15 @@ use mathlib.Core.Bool.{Bool, true, false, _&&_, _||_, not, true≢false, false�
 use mathlib.Core.List.{List}
 use native.Mathlib.Numerals.{add-one}
 use native.Mathlib.Omega.{arith}
-use lib.IntN.{ℤ, pos}
+use lib.IntN.{ℤ}
 use borrow.Author.Tests.{le-ltb, lt-ltb}
 use lib.Dec.{eqb, ltb, eqb·suc-zero}
-use lib.ListN.{getD}
 use Rattle.laws.specs.Lists.{allBelow}
 use Rattle.laws.proofs.Booleans.{all-below-snoc}
 use Rattle.plan.specs.Operations.{uses}
 use Rattle.plan.specs.declared.Node.{Node}
 use Rattle.plan.specs.Words.{sizeOf, wordAt, wordsOf, nodeAt}
-use Rattle.plan.specs.Answers.{AllHold, FirstFailing}
+use Rattle.plan.specs.Answers.{FirstFailing}
 use Rattle.plan.proofs.Outcomes.{fails-here, holds-then}
 use Rattle.plan.proofs.Masks.{mask-bit}
 use Rattle.verifier.specs.Rules.{unusedZero, sourcesEarlier}

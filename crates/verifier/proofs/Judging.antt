@@ -1,7 +1,7 @@
 -- Rules 5 to 11 of a node, from the tests that the code makes in turn.
 use Prim.Native.Nat.{ℕ, _<_, _≤_}
-use mathlib.Core.Path.{_≡_, refl, sym, ap, _∙_, subst}
-use mathlib.Core.Bool.{Bool, true, false, _&&_, _||_, not}
+use mathlib.Core.Path.{_≡_, refl, _∙_, subst}
+use mathlib.Core.Bool.{Bool, true, false, _||_, not}
 use mathlib.Core.List.{List, [], _∷_}
 use borrow.Author.Tests.{le-leb, lt-leb, leb-true}
 use lib.Dec.{eqb, leb}
@@ -9,7 +9,7 @@ use lib.IntN.{pos}
 use lib.ListN.{length}
 use Rattle.laws.specs.Lists.{among}
 use Rattle.laws.specs.Numbering.{count}
-use Rattle.laws.proofs.Booleans.{and-true, and-true-of}
+use Rattle.laws.proofs.Booleans.{and-true}
 use Rattle.plan.specs.declared.Interval.{Interval}
 use Rattle.plan.specs.declared.Node.{Node}
 use Rattle.plan.specs.Operations.{PAD, SHRINK, operationCount, byOperation}
@@ -18,7 +18,7 @@ use Rattle.plan.specs.Words.{listOf}
 use Rattle.plan.specs.Answers.{AllHold, FirstFailing}
 use Rattle.plan.proofs.Outcomes.{fails-here, holds-then, first-front, first-back, all-both}
 use Rattle.plan.proofs.ByOperation.{_then_, for-group}
-use Rattle.shapes.specs.Rows.{isShapeRow, isOffsetRow}
+use Rattle.shapes.specs.Rows.{isShapeRow}
 use Rattle.shapes.specs.Rules.{elementLimit, shapesAgree, resultExtents}
 use Rattle.shapes.specs.Shown.{Narrow, capped, shaped, Tested}
 use Rattle.shapes.proofs.RowTests.{shape-narrow, offset-narrow}

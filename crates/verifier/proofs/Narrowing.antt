@@ -1,8 +1,8 @@
 -- What a node that meets the rules derives fits the code's record.
 use Prim.Native.Nat.{ℕ, zero, suc, _<_, _≤_}
-use mathlib.Core.Path.{_≡_, refl}
-use mathlib.Core.Bool.{Bool, true, false, _&&_, _||_, not, cond, false≢true}
-use mathlib.Core.List.{List, [], _∷_}
+use mathlib.Core.Path.{_≡_}
+use mathlib.Core.Bool.{true, false, _||_, not}
+use mathlib.Core.List.{[], _∷_}
 use native.Mathlib.Omega.{arith}
 use borrow.Author.Tests.{leb-true}
 use lib.IntN.{ℤ, pos, negsuc}
@@ -13,7 +13,7 @@ use Rattle.laws.proofs.Booleans.{and-true, cond-both}
 use Rattle.laws.proofs.Parts.{arithℤ}
 use Rattle.plan.specs.declared.Interval.{Interval}
 use Rattle.plan.specs.declared.Node.{Node}
-use Rattle.plan.specs.Operations.{CONST, PARAM, CAST, LOAD, operationCount, uses, byOperation}
+use Rattle.plan.specs.Operations.{CONST, PARAM, CAST, LOAD, uses, byOperation}
 use Rattle.plan.specs.Types.{holds, contains, rangeOf}
 use Rattle.plan.proofs.ByOperation.{_then_, by-rows, for-group}
 use Rattle.bounds.specs.Narrow.{Narrow}

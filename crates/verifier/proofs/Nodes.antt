@@ -1,21 +1,20 @@
 -- What acceptance says of each node, at every prefix of a plan.
-use Prim.Native.Nat.{ℕ, zero, suc, _<_, _≤_}
-use mathlib.Core.Path.{_≡_, refl, ap, sym, _∙_, subst}
-use mathlib.Core.Bool.{Bool, true, false, _&&_, _||_, not, cond, false≢true}
-use mathlib.Core.List.{List, [], _∷_}
+use Prim.Native.Nat.{ℕ, _<_, _≤_}
+use mathlib.Core.Path.{_≡_, refl, ap}
+use mathlib.Core.Bool.{Bool, true, false, false≢true}
+use mathlib.Core.List.{List}
 use native.Mathlib.Omega.{arith}
 use borrow.Author.Tests.{ltb-true, ltb-false, leb-true}
 use lib.IntN.{ℤ}
-use lib.Dec.{ltb, leb}
+use lib.Dec.{ltb}
 use lib.ListN.{length, getD, take, length-take, List·getD-eq-default}
 use lib.Seq.{getD-take}
 use Rattle.laws.specs.Lists.{among}
-use Rattle.laws.specs.Numbering.{count}
 use Rattle.laws.proofs.Booleans.{bool-cases, cond-both, and-true}
 use Rattle.laws.proofs.Induction.{each-below}
 use Rattle.plan.specs.declared.Node.{Node}
 use Rattle.plan.specs.declared.NodeNumber.{NodeNumber}
-use Rattle.plan.specs.Operations.{PERMUTE, operationCount, uses, byOperation}
+use Rattle.plan.specs.Operations.{PERMUTE, operationCount, uses}
 use Rattle.plan.specs.Types.{contains, rangeOf}
 use Rattle.plan.specs.Words.{nodeAt, listOf}
 use Rattle.shapes.specs.Rows.{isPermutation}
@@ -24,7 +23,7 @@ use Rattle.shapes.proofs.Extents.{Extents, no-extents, result-extents, some-ele
 use Rattle.bounds.specs.Rules.{resultBounds}
 use Rattle.verifier.specs.Rules.{Derived, noSource, sourceOf, implies, sourcesEarlier, rowsRight, shapeRight, boundsInType, derivedOf}
 use Rattle.verifier.specs.Check.{first, second, third, countOf}
-use Rattle.verifier.specs.Meets.{NodeMeets, MeetsAt, NodesMeet}
+use Rattle.verifier.specs.Meets.{NodeMeets, NodesMeet}
 
 implied : (p q : Bool) → implies p q ≡ true → p ≡ true → q ≡ true
 implied true q e h = e

@@ -1,18 +1,18 @@
 -- The check of a whole plan.
-use Prim.Native.Nat.{ℕ, zero, suc, _+_, _*_, _-_, _%_}
-use mathlib.Core.Bool.{Bool, true, false, _&&_, cond}
+use Prim.Native.Nat.{ℕ, _+_, _*_, _-_, _%_}
+use mathlib.Core.Bool.{Bool, _&&_}
 use mathlib.Core.List.{List, [], _∷_, _++_, map}
-use lib.IntN.{ℤ, pos, negsuc}
+use lib.IntN.{ℤ, pos}
 use lib.Dec.{eqb, leb}
-use lib.ListN.{length, replicate, getD, take}
+use lib.ListN.{length, replicate}
 use Rattle.laws.specs.Lists.{concat, sum}
 use Rattle.laws.specs.Numbering.{count}
 use Rattle.plan.specs.declared.Answer.{Answer}
 use Rattle.plan.specs.declared.Node.{Node}
-use Rattle.plan.specs.Words.{wordsPerNode, nodeLimit, nodeOf, wordsOf, nodeAt, nodeCount, paramsBefore}
-use Rattle.plan.specs.Answers.{Refusal, Outcome, accepted, refused, refuse, need, andThen, inTurn, Rule, inOrder, answerOf, bufferAfter}
-use Rattle.codec.specs.Plans.{Unpacked, unpack}
-use Rattle.verifier.specs.Rules.{Derived, noSource, sourceOf, derivedOf, rulesOf}
+use Rattle.plan.specs.Words.{wordsPerNode, nodeLimit, wordsOf, nodeAt, nodeCount, paramsBefore}
+use Rattle.plan.specs.Answers.{Outcome, accepted, refused, need, andThen, inTurn, Rule, inOrder, answerOf, bufferAfter}
+use Rattle.codec.specs.Plans.{unpack}
+use Rattle.verifier.specs.Rules.{Derived, sourceOf, derivedOf, rulesOf}
 
 -- source k of a node after the earlier ones
 abbrev pub first : Node → List Derived → Derived

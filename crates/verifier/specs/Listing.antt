@@ -1,13 +1,13 @@
 -- The listing's text, as bytes.
 use Prim.Native.Nat.{ℕ, zero, suc, _+_, _/_, _%_}
-use mathlib.Core.Bool.{Bool, true, false, cond}
+use mathlib.Core.Bool.{cond}
 use mathlib.Core.List.{List, [], _∷_, _++_}
 use lib.IntN.{ℤ, pos, negsuc}
 use lib.Dec.{ltb}
 use lib.ListN.{length, getD, take}
 use Rattle.laws.specs.Lists.{tab, concat}
 use Rattle.plan.specs.Words.{nodeAt}
-use Rattle.plan.specs.Answers.{Refusal, Outcome, accepted, refused}
+use Rattle.plan.specs.Answers.{Outcome, accepted, refused}
 use Rattle.verifier.specs.Rules.{Derived, noSource}
 use Rattle.verifier.specs.Check.{Checked, unpackCheck}
 

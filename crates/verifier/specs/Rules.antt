@@ -2,7 +2,7 @@
 use Prim.Native.Nat.{ℕ}
 use mathlib.Core.Bool.{Bool, true, false, _&&_, _||_, not, cond}
 use mathlib.Core.List.{List, [], _∷_, _++_}
-use lib.IntN.{ℤ, pos, negsuc}
+use lib.IntN.{ℤ, pos}
 use lib.Signed.{leZ}
 use lib.Dec.{eqb, ltb, leb}
 use lib.ListN.{getD, length}
@@ -11,7 +11,7 @@ use Rattle.laws.specs.Numbering.{count}
 use Rattle.plan.specs.declared.NodeNumber.{NodeNumber}
 use Rattle.plan.specs.declared.Interval.{Interval}
 use Rattle.plan.specs.declared.Node.{Node}
-use Rattle.plan.specs.Operations.{CONST, PARAM, PERMUTE, FLIP, RESHAPE, EXPAND, PAD, SHRINK, CAST, ADD, MUL, MAX, IDIV, MOD, CMPLT, CMPNE, AND, OR, WHERE, REDUCE, LOAD, operationCount, uses, movements, arithmetic, comparisons, logical, binaries, Entry, _⇒_, byOperation}
+use Rattle.plan.specs.Operations.{CONST, PARAM, PERMUTE, FLIP, RESHAPE, EXPAND, PAD, SHRINK, CAST, IDIV, MOD, CMPLT, CMPNE, WHERE, REDUCE, LOAD, operationCount, uses, movements, arithmetic, comparisons, logical, binaries, Entry, _⇒_, byOperation}
 use Rattle.plan.specs.Types.{between, holds, contains, bool, rangeOf}
 use Rattle.plan.specs.Words.{wordsPerNode, wordAt, sizeOf, listOf, nodeOf}
 use Rattle.plan.specs.Answers.{Rule, rule}
