@@ -16,24 +16,28 @@ pub struct Bounds {
     pub high: i32,
 }
 
+// The smaller of two.
 fn least(a: i64, b: i64) -> i64
     ensures { λ r. ⌜ r ≡ minZ a b ⌝ }
 {
     if b < a { b } else { a }
 }
 
+// The larger of two.
 fn greatest(a: i64, b: i64) -> i64
     ensures { λ r. ⌜ r ≡ maxZ a b ⌝ }
 {
     if a < b { b } else { a }
 }
 
+// The smallest of four.
 fn least4(a: i64, b: i64, c: i64, d: i64) -> i64
     ensures { λ r. ⌜ r ≡ min4 a b c d ⌝ }
 {
     least(least(a, b), least(c, d))
 }
 
+// The largest of four.
 fn greatest4(a: i64, b: i64, c: i64, d: i64) -> i64
     ensures { λ r. ⌜ r ≡ max4 a b c d ⌝ }
 {
@@ -84,6 +88,7 @@ fn quotient(a: i64, b: i64) -> i64
     floor_div(a, b)
 }
 
+// A product: the least and the greatest of its four corners.
 pub fn mul_bounds(x: Interval, y: Interval) -> Interval
     requires { ⌜ (Held x) × (Held y) ⌝ }
     ensures { λ r. ⌜ r ≡ mulBounds x y ⌝ }
@@ -98,6 +103,7 @@ pub fn mul_bounds(x: Interval, y: Interval) -> Interval
     }
 }
 
+// A floored quotient: the least and the greatest of its four corners.
 pub fn idiv_bounds(x: Interval, y: Interval) -> Interval
     requires { ⌜ (Held x) × (Held y) ⌝ }
     ensures { λ r. ⌜ r ≡ idivBounds x y ⌝ }
@@ -116,6 +122,7 @@ pub fn idiv_bounds(x: Interval, y: Interval) -> Interval
     }
 }
 
+// Whether less: 1 where always, 0 where never, else either.
 pub fn cmplt_bounds(x: Interval, y: Interval) -> Interval
     ensures { λ r. ⌜ r ≡ cmpltBounds x y ⌝ }
 {
@@ -132,6 +139,7 @@ pub fn cmplt_bounds(x: Interval, y: Interval) -> Interval
     Interval { low: 0, high: 1 }
 }
 
+// A floored remainder: from 0 up to the divisor, or down to it.
 pub fn mod_bounds(y: Interval) -> Interval
     requires { ⌜ Held y ⌝ }
     ensures { λ r. ⌜ r ≡ modBounds y ⌝ }
@@ -150,6 +158,7 @@ pub fn mod_bounds(y: Interval) -> Interval
     }
 }
 
+// A sum: low with low, high with high.
 pub fn add_bounds(x: Interval, y: Interval) -> Interval
     requires { ⌜ (Held x) × (Held y) ⌝ }
     ensures { λ r. ⌜ r ≡ addBounds x y ⌝ }
@@ -160,6 +169,7 @@ pub fn add_bounds(x: Interval, y: Interval) -> Interval
     }
 }
 
+// The larger of both lows and of both highs: MAX and OR.
 pub fn max_bounds(x: Interval, y: Interval) -> Interval
     ensures { λ r. ⌜ r ≡ maxBounds x y ⌝ }
 {
@@ -169,6 +179,7 @@ pub fn max_bounds(x: Interval, y: Interval) -> Interval
     }
 }
 
+// The smaller of both lows and of both highs: AND.
 pub fn min_bounds(x: Interval, y: Interval) -> Interval
     ensures { λ r. ⌜ r ≡ minBounds x y ⌝ }
 {
@@ -178,6 +189,7 @@ pub fn min_bounds(x: Interval, y: Interval) -> Interval
     }
 }
 
+// Both sides of a choice together.
 pub fn where_bounds(x: Interval, y: Interval) -> Interval
     ensures { λ r. ⌜ r ≡ whereBounds x y ⌝ }
 {
@@ -187,6 +199,7 @@ pub fn where_bounds(x: Interval, y: Interval) -> Interval
     }
 }
 
+// Whether not equal: 1 where apart, 0 where both are one and the same number, else either.
 pub fn cmpne_bounds(x: Interval, y: Interval) -> Interval
     ensures { λ r. ⌜ r ≡ cmpneBounds x y ⌝ }
 {
@@ -236,6 +249,7 @@ pub fn in_type(t: usize, x: Interval) -> bool
     ((from <= low) & (low <= to)) & ((from <= high) & (high <= to))
 }
 
+// An interval as 64-bit numbers.
 pub fn wide(b: Bounds) -> Interval
     ensures { λ r. ⌜ (r ≡ wideOf b) × (Held r) ⌝ }
 {
@@ -245,6 +259,7 @@ pub fn wide(b: Bounds) -> Interval
     }
 }
 
+// An interval that fits 32 bits, as such.
 pub fn narrow(x: Interval) -> Bounds
     requires { ⌜ Narrow x ⌝ }
     ensures { λ r. ⌜ wideOf r ≡ x ⌝ }
