@@ -292,15 +292,7 @@ fn divisor_right(op: usize, b: Interval) -> bool
 }
 
 // Rules 9 to 11, and the record of a node of shape e with n elements.
-fn judge_values(
-    x: Node,
-    params: usize,
-    a: Record,
-    b: Record,
-    c: Record,
-    e: Shape,
-    n: usize,
-) -> Judged
+fn value_node(x: Node, params: usize, a: Record, b: Record, c: Record, e: Shape, n: usize) -> Judged
     requires { ⌜ Ready x params (viewOf a) (viewOf b) (viewOf c) e n ⌝ }
     ensures { λ r. ⌜ Values x (viewOf a) (viewOf b) (viewOf c) r ⌝ }
 {
@@ -316,13 +308,10 @@ fn judge_values(
     if !divisor_right(op, divisor) {
         return Judged::Breaks(10);
     }
-    let range = bounds::result_bounds(
-        x,
-        gathers(x, s),
-        bounds::wide(ba),
-        divisor,
-        bounds::wide(bc),
-    );
+    let gathered = gathers(x, s);
+    let first = bounds::wide(ba);
+    let third = bounds::wide(bc);
+    let range = bounds::result_bounds(x, gathered, first, divisor, third);
     let dtype = result_type(x, a.dtype, b.dtype);
     if !bounds::in_type(dtype, range) {
         return Judged::Breaks(11);
@@ -348,7 +337,7 @@ fn judge(x: Node, mask: usize, params: usize, a: Record, b: Record, c: Record) -
     let shaped = shape_node(x, mask, params, a, b, c);
     match shaped {
         Shaped::Misfits(number) => Judged::Breaks(number),
-        Shaped::Fits(e, n) => judge_values(x, params, a, b, c, e, n),
+        Shaped::Fits(e, n) => value_node(x, params, a, b, c, e, n),
     }
 }
 

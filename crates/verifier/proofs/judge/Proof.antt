@@ -13,8 +13,8 @@ enum-known-shaped c = search needs
 enum-known-shaped-2 : tie.Need-enum-known-shaped-2
 enum-known-shaped-2 c = search needs
 
-judge-values-requires : tie.Need-judge-values-requires
-judge-values-requires c κs =
+value-node-requires : tie.Need-value-node-requires
+value-node-requires c κs =
     let p1 = c .before in
     let p2 = p1 .before in
     let p3 = p2 .before in
@@ -37,7 +37,7 @@ returns-2 c =
     let p4 = p3 .before in
     let p5 = p4 .before in
     let ready = ready-of (p5 .args .x) (p5 .args .params) (viewOf (p5 .args .a)) (viewOf (p5 .args .b)) (viewOf (p5 .args .c)) (p4 .shape-node .ensures) (p2 .shaped2 .given .1) (p5 .pre .0 .known) (p5 .pre .1) in
-    judged-of (p5 .args .x) (p5 .args .params) (viewOf (p5 .args .a)) (viewOf (p5 .args .b)) (viewOf (p5 .args .c)) (c .judge-values .result) (ready .held) (c .judge-values .ensures)
+    judged-of (p5 .args .x) (p5 .args .params) (viewOf (p5 .args .a)) (viewOf (p5 .args .b)) (viewOf (p5 .args .c)) (c .value-node .result) (ready .held) (c .value-node .ensures)
 
 pub judge-spec : {M : Type 1} → statement M
 judge-spec =
@@ -46,6 +46,6 @@ judge-spec =
     shape-node-requires
     enum-known-shaped
     enum-known-shaped-2
-    judge-values-requires
+    value-node-requires
     returns
     returns-2)

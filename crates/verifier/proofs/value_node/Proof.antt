@@ -5,8 +5,8 @@ use Rattle.verifier.proofs.Judging.{breaks-9, breaks-10, breaks-11, val
 use Rattle.shapes.specs.Shown.{shown}
 use Rattle.verifier.specs.Rules.{divisorRight}
 use Rattle.verifier.proofs.Narrowing.{range-narrow}
-use Rattle.verifier.proofs.judge_values.Statement.{statement}
-use Rattle.verifier.proofs.judge_values.Tie as tie
+use Rattle.verifier.proofs.value_node.Statement.{statement}
+use Rattle.verifier.proofs.value_node.Tie as tie
 
 devices-agree-requires : tie.Need-devices-agree-requires
 devices-agree-requires c κs = search needs
@@ -159,8 +159,8 @@ returns-4 c =
       p18 .pre .counted,
     )
 
-pub judge-values-spec : {M : Type 1} → statement M
-judge-values-spec =
+pub value-node-spec : {M : Type 1} → statement M
+value-node-spec =
     tie.close
     (tie.spec
     devices-agree-requires
