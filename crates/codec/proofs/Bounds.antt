@@ -1,5 +1,5 @@
 -- What every outcome of the reader keeps to: values, positions, lengths, refusals.
-use Prim.Native.Nat.{ℕ, zero, suc, _+_, _*_, _%_, _≤_}
+use Prim.Native.Nat.{ℕ, zero, suc, _+_, _*_, _%_, _<_, _≤_}
 use mathlib.Core.Path.{_≡_, refl, ap, subst, _∙_}
 use mathlib.Core.Bool.{Bool, true, false, _&&_, not, cond}
 use mathlib.Core.List.{List, [], _∷_, _++_}
@@ -36,11 +36,17 @@ module _ {A : Type 0} where
   holds-then P P′ Q (accepted a) next h f = f a h
   holds-then P P′ Q (refused r) next h f = h
 
+  -- m steps in turn, each of which keeps to it
+  pub holds-turns : (P : ℕ → A → Type 0) (Q : Refusal → Type 0) (step : ℕ → A → Outcome A) (start : A) → P 0 start
+      → (m : ℕ) → ((n : ℕ) (a : A) → n < m → P n a → Holds (P (suc n)) Q (step n a)) → Holds (P m) Q (inTurn step start m)
+  unfolding inTurn
+  holds-turns P Q step start p zero f = p
+  holds-turns P Q step start p (suc m) f =
+      holds-then (P m) (P (suc m)) Q (inTurn step start m) (step m) (holds-turns P Q step start p m (λ n a h. f n a (omega arith))) (λ a. f m a (omega arith))
+
   pub holds-turn : (P : ℕ → A → Type 0) (Q : Refusal → Type 0) (step : ℕ → A → Outcome A) (start : A) → P 0 start
       → ((n : ℕ) (a : A) → P n a → Holds (P (suc n)) Q (step n a)) → (n : ℕ) → Holds (P n) Q (inTurn step start n)
-  unfolding inTurn
-  holds-turn P Q step start p f zero = p
-  holds-turn P Q step start p f (suc n) = holds-then (P n) (P (suc n)) Q (inTurn step start n) (step n) (holds-turn P Q step start p f n) (f n)
+  holds-turn P Q step start p f m = holds-turns P Q step start p m (λ n a h. f n a)
 
 -- a number ends within the bytes; its refusals name its first byte
 abbrev pub EndsIn : List ℕ → Read → Type 0

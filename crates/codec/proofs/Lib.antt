@@ -4,3 +4,4 @@ pub mod Bounds
 pub mod Storing
 pub mod Unpacking
 pub mod Limits
+pub mod Prefix

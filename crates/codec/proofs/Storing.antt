@@ -16,7 +16,7 @@ use Rattle.codec.specs.Plans.{Unpacked}
 use Rattle.codec.specs.Steps.{stepOf, Stands, Wrote}
 
 -- values after values, and values over one that was written before
-pub sets-append : (xs ys l : List ℤ) (i : ℕ) → sets (sets l i xs) (i + length xs) ys ≡ sets l i (xs ++ ys)
+sets-append : (xs ys l : List ℤ) (i : ℕ) → sets (sets l i xs) (i + length xs) ys ≡ sets l i (xs ++ ys)
 sets-append [] ys l i = rw add-zero
 sets-append (x ∷ xs) ys l i = rw (add-suc, ← suc-add) (sets-append xs ys (set l i x) (suc i))
 

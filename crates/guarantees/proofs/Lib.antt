@@ -4,3 +4,4 @@ pub mod Acceptance
 pub mod Elements
 pub mod Lookups
 pub mod Refusals
+pub mod Packed

@@ -5,3 +5,4 @@ pub mod Acceptance
 pub mod Elements
 pub mod Lookups
 pub mod Refusals
+pub mod Packed

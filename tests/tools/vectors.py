@@ -1,0 +1,924 @@
+#!/usr/bin/env python3
+"""Writes the cases of the program `vectors`: crates/vectors/stdin (frames, see its main.rt) and stdout.
+
+usage: vectors.py             write both files
+       vectors.py --check     exit 1 where the files are not what would be written
+       vectors.py --list      a line for each case: index, call, name, answer
+       vectors.py --spoilt PROGRAM    exit 1 unless the program finds each case that is spoilt
+
+Every expected answer here is written by hand from the sentence of 01 that is quoted above it. The model of
+tests/model is only asked afterwards, and the script stops where it differs. Cases of run and lookup come with
+those calls: kinds 3 and 4 are theirs.
+"""
+import os
+import struct
+import subprocess
+import sys
+from collections import namedtuple
+
+ROOT = os.path.dirname(os.path.dirname(os.path.dirname(os.path.abspath(__file__))))
+sys.path.insert(0, os.path.join(ROOT, 'tests', 'model'))
+
+import model
+from cases import (BIG, LARGE, apply, const, fresh_words, large, move, node, pack, param,
+                   reduce_node)
+from model import (ADD, AND, CAST, CMPLT, CMPNE, EXPAND, FLIP, IDIV, LOAD, MAX, MOD, MUL, OR, PAD, PERMUTE,
+                   RESHAPE, SHRINK, WHERE)
+
+FRAMES = os.path.join(ROOT, 'crates', 'vectors', 'stdin')
+OUTPUT = os.path.join(ROOT, 'crates', 'vectors', 'stdout')
+MOST_FRAME_BYTES = 1048576
+KINDS = {'unpack_check': 0, 'unpack': 1, 'check': 2, 'run': 3, 'lookup': 4}
+BOOL, U8, I16, I32 = range(4)
+
+# answer: (number, place, count), of unpack_check one number. buffer: every word afterwards, None where the
+# call has none.
+Case = namedtuple('Case', 'call name source answer buffer')
+
+
+# ------------------------------------------------------------ writing cases
+
+def buffer_after(words, room):
+    """Buffer places past what a call writes stay as they were."""
+    return list(words) + fresh_words(room)[len(words):]
+
+
+def accepted(name, table, *rows, room=None):
+    """A check that is accepted; a row is type, device, low, high and the extents, for each node."""
+    words = [word for row in rows for word in (*row, *[0] * (8 - len(row)))]
+    room = len(words) + 2 if room is None else room
+    return Case('check', name, table, (0, 0, 0), buffer_after(words, room))
+
+
+def refused(name, number, place, table, room=None):
+    """A check that is refused, with room enough for what it would write, but for plans of 256 nodes."""
+    room = min(8 * (len(table) // 17), 200) if room is None else room
+    return Case('check', name, table, (number, place, 0), fresh_words(room))
+
+
+def unpacks(name, text, count, table, room=None):
+    """An unpack that is accepted; the bytes in hex."""
+    room = len(table) + 3 if room is None else room
+    return Case('unpack', name, bytes.fromhex(text), (0, 0, count), buffer_after(table, room))
+
+
+def unpack_refused(name, text, number, place, room=40):
+    return Case('unpack', name, bytes.fromhex(text), (number, place, 0), fresh_words(room))
+
+
+def in_one_call(name, data, answer):
+    return Case('unpack_check', name, data, answer, None)
+
+
+def code(number, place):
+    """"refused, 65536 times the number plus the place\""""
+    return 65536 * number + place
+
+
+def cast(source, dtype):
+    return node(CAST, {1: source, 4: dtype})
+
+
+def load(source, device):
+    return node(LOAD, {1: source, 6: device})
+
+
+def changed(words, *changes):
+    """A node with other words: pairs of word and value."""
+    words = list(words)
+    for word, value in changes:
+        words[word] = value
+    return words
+
+
+def scalar(slot, dtype, low, high, device=1):
+    return param(slot, dtype, low, high, (), device)
+
+
+# ---------------------------------------------- every operation, and rule 3
+# "| op | words used | dtype of result |": a node of each operation after the nodes 0 to 2 of BASE, the row
+# derived of it, and some words that it does not use.
+
+BASE = param(0, I16, -4, 10, (2, 3)) + const(I16, 2) + const(BOOL, 1)
+BASE_ROWS = ((I16, 1, -4, 10, 2, 3), (I16, 0, 2, 2), (BOOL, 0, 1, 1))
+OPERATIONS = (
+    ('CONST', const(I32, 7), (I32, 0, 7, 7), (1, 3, 6, 16)),
+    ('PARAM', param(1, U8, 0, 255, (4,), 9), (U8, 9, 0, 255, 4), (1, 3, 13, 16)),
+    ('PERMUTE', move(PERMUTE, 0, (1, 0)), (I16, 1, -4, 10, 3, 2), (2, 8, 13, 16)),
+    ('FLIP', move(FLIP, 0, (0, 1)), (I16, 1, -4, 10, 2, 3), (2, 8, 13, 16)),
+    ('RESHAPE', move(RESHAPE, 0, (6,)), (I16, 1, -4, 10, 6), (2, 8, 13, 16)),
+    ('EXPAND', move(EXPAND, 0, (2, 3)), (I16, 1, -4, 10, 2, 3), (2, 8, 13, 16)),
+    ('PAD', move(PAD, 0, (4, 5), (1, 1)), (I16, 1, -4, 10, 4, 5), (2, 8)),
+    ('SHRINK', move(SHRINK, 0, (1, 1), (1, 0)), (I16, 1, -4, 10, 1, 1), (2, 8)),
+    ('CAST', cast(0, I32), (I32, 1, -4, 10, 2, 3), (2, 3, 5, 16)),
+    ('ADD', apply(ADD, 0, 1), (I16, 1, -2, 12, 2, 3), (3, 4, 16)),
+    ('MUL', apply(MUL, 0, 1), (I16, 1, -8, 20, 2, 3), (3, 4, 16)),
+    ('MAX', apply(MAX, 0, 1), (I16, 1, 2, 10, 2, 3), (3, 4, 16)),
+    ('IDIV', apply(IDIV, 0, 1), (I16, 1, -2, 5, 2, 3), (3, 4, 16)),
+    ('MOD', apply(MOD, 0, 1), (I16, 1, 0, 1, 2, 3), (3, 4, 16)),
+    ('CMPLT', apply(CMPLT, 0, 1), (BOOL, 1, 0, 1, 2, 3), (3, 4, 16)),
+    ('CMPNE', apply(CMPNE, 0, 1), (BOOL, 1, 0, 1, 2, 3), (3, 4, 16)),
+    ('AND', apply(AND, 2, 2), (BOOL, 0, 1, 1), (3, 4, 16)),
+    ('OR', apply(OR, 2, 2), (BOOL, 0, 1, 1), (3, 4, 16)),
+    ('WHERE', apply(WHERE, 2, 0, 1), (I16, 1, -4, 10, 2, 3), (4, 16)),
+    ('REDUCE', reduce_node(0, 0, (0, 1)), (I16, 1, -12, 30, 2, 1), (2, 4, 6, 8, 13, 16)),
+    ('LOAD', load(0, 9), (I16, 9, -4, 10, 2, 3), (2, 5, 7, 16)),
+)
+BY_OPERATION = [accepted(f'{name} is accepted', BASE + words, *BASE_ROWS, row)
+                for name, words, row, _ in OPERATIONS]
+# 3 "unused word not zero"
+UNUSED = [refused(f'{name} with word {k} not zero', 3, 3, BASE + changed(words, (k, 1)))
+          for name, words, _, unused in OPERATIONS for k in unused]
+UNUSED += [
+    refused('unused word negative', 3, 0, changed(const(I16, 5), (9, -1))),
+    refused('unused word least', 3, 0, changed(const(I16, 5), (16, -BIG))),
+    refused('unused word of 2^32', 3, 0, changed(const(I16, 5), (1, 2 ** 32))),
+]
+
+# ------------------------------------------------------------------- bounds
+# "With [a,A], [b,B] of the sources": operation, type, first and second interval, the printed bounds. The
+# examples marked ● are here too.
+
+BOUNDS = (
+    # "ADD [a+b,A+B]"; "● i16 [−16384,16383] added to itself: [−32768,32766]."
+    (ADD, I16, (-16384, 16383), (-16384, 16383), (-32768, 32766)),
+    (ADD, U8, (0, 5), (250, 250), (250, 255)),
+    (ADD, I32, (-2147483647, -1), (-1, 2147483647), (-2147483648, 2147483646)),
+    # "MUL least and greatest of four products" ("Two corners for MUL" is a slip)
+    (MUL, I16, (-3, 2), (-5, 4), (-12, 15)),
+    (MUL, I16, (-3, -2), (-5, 4), (-12, 15)),
+    (MUL, I16, (2, 3), (-5, 4), (-15, 12)),
+    (MUL, I16, (-3, 2), (-5, -4), (-10, 15)),
+    (MUL, I32, (-46340, 46340), (-46340, 46340), (-2147395600, 2147395600)),
+    # "MAX [max(a,b),max(A,B)]"
+    (MAX, I16, (-4, 10), (2, 5), (2, 10)),
+    (MAX, I16, (-4, 1), (-9, 5), (-4, 5)),
+    # "IDIV least and greatest of four floored corner quotients"; "● IDIV [−7,7] by 2: [−4,3]."
+    (IDIV, I16, (-7, 7), (2, 2), (-4, 3)),
+    (IDIV, I16, (-7, 7), (-3, -2), (-4, 3)),
+    (IDIV, I16, (-7, -5), (2, 4), (-4, -2)),
+    (IDIV, I16, (5, 7), (-4, -2), (-4, -2)),
+    (IDIV, I16, (1, 7), (2, 9), (0, 3)),
+    (IDIV, I32, (-2147483648, 0), (1, 1), (-2147483648, 0)),
+    (IDIV, I32, (-2147483647, 0), (-1, -1), (0, 2147483647)),
+    # "MOD [0,B−1] for b>0, [b+1,0] for B<0"; "● MOD by [−3,−2]: [−2,0]."
+    (MOD, I16, (-7, 7), (-3, -2), (-2, 0)),
+    (MOD, I16, (-7, 7), (2, 5), (0, 4)),
+    (MOD, I16, (3, 3), (5, 5), (0, 4)),
+    (MOD, I16, (-7, 7), (1, 1), (0, 0)),
+    (MOD, I16, (-7, 7), (-1, -1), (0, 0)),
+    (MOD, I32, (0, 1), (-2147483648, -1), (-2147483647, 0)),
+    # "AND [min(a,b),min(A,B)], OR [max(a,b),max(A,B)]"
+    (AND, BOOL, (0, 1), (1, 1), (0, 1)),
+    (AND, BOOL, (0, 0), (0, 1), (0, 0)),
+    (AND, BOOL, (1, 1), (1, 1), (1, 1)),
+    (OR, BOOL, (0, 1), (1, 1), (1, 1)),
+    (OR, BOOL, (0, 0), (0, 1), (0, 1)),
+    (OR, BOOL, (0, 0), (0, 0), (0, 0)),
+    # "CMPLT is [1,1] if A<b, [0,0] if a≥B, else [0,1]."; "● CMPLT of [4,9] and [0,4]: [0,0]."
+    (CMPLT, I16, (4, 9), (0, 4), (0, 0)),
+    (CMPLT, I16, (4, 9), (10, 12), (1, 1)),
+    (CMPLT, I16, (4, 9), (9, 12), (0, 1)),
+    (CMPLT, I16, (4, 9), (0, 5), (0, 1)),
+    (CMPLT, I16, (4, 4), (4, 4), (0, 0)),
+    # "CMPNE is [1,1] if the two are disjoint, [0,0] if all four ends are equal, else [0,1]."
+    (CMPNE, I16, (4, 9), (10, 12), (1, 1)),
+    (CMPNE, I16, (10, 12), (4, 9), (1, 1)),
+    (CMPNE, I16, (4, 4), (4, 4), (0, 0)),
+    (CMPNE, I16, (4, 9), (9, 12), (0, 1)),
+    (CMPNE, I16, (4, 9), (4, 9), (0, 1)),
+    (CMPNE, I16, (4, 4), (4, 9), (0, 1)),
+    (CMPNE, BOOL, (0, 0), (1, 1), (1, 1)),
+    (CMPNE, BOOL, (0, 1), (1, 1), (0, 1)),
+)
+
+
+def bounds_case(op, dtype, first, second, result):
+    table = scalar(0, dtype, *first) + scalar(1, dtype, *second) + apply(op, 0, 1)
+    result_type = BOOL if op in (CMPLT, CMPNE) else dtype
+    return accepted(f'{OPERATIONS[op][0]} of {first} and {second}', table,
+                    (dtype, 1, *first), (dtype, 1, *second), (result_type, 1, *result))
+
+
+THREE_BY_TWO = param(0, I16, -4, 10, (3, 2))
+THREE_BY_TWO_ROW = (I16, 1, -4, 10, 3, 2)
+OTHER_BOUNDS = [
+    # "CONST [v,v]" at both ends of "0 bool (0..1), 1 u8 (0..255), 2 i16 (−32768..32767), 3 i32
+    # (−2147483648..2147483647)"
+    accepted('CONST at the ends of each type', const(BOOL, 0) + const(BOOL, 1) + const(U8, 0) + const(U8, 255)
+             + const(I16, -32768) + const(I16, 32767) + const(I32, -2147483648) + const(I32, 2147483647),
+             (0, 0, 0, 0), (0, 0, 1, 1), (1, 0, 0, 0), (1, 0, 255, 255), (2, 0, -32768, -32768),
+             (2, 0, 32767, 32767), (3, 0, -2147483648, -2147483648), (3, 0, 2147483647, 2147483647)),
+    # "PARAM [low,high]"
+    accepted('PARAM with the whole of each type', scalar(0, BOOL, 0, 1) + scalar(1, U8, 0, 255)
+             + scalar(2, I16, -32768, 32767) + scalar(3, I32, -2147483648, 2147483647),
+             (0, 1, 0, 1), (1, 1, 0, 255), (2, 1, -32768, 32767), (3, 1, -2147483648, 2147483647)),
+    accepted('PARAM with low equal to high', scalar(0, I16, -3, -3), (I16, 1, -3, -3)),
+    # "WHERE [min(b,c),max(B,C)]", whatever the condition's bounds
+    accepted('WHERE joins both sides', const(BOOL, 1) + scalar(0, I16, -3, 4) + scalar(1, I16, 2, 9)
+             + apply(WHERE, 0, 1, 2),
+             (BOOL, 0, 1, 1), (I16, 1, -3, 4), (I16, 1, 2, 9), (I16, 1, -3, 9)),
+    # "CAST the source's."
+    accepted('CAST to a narrower type', scalar(0, I32, 0, 255) + cast(0, U8), (I32, 1, 0, 255),
+             (U8, 1, 0, 255)),
+    accepted('CAST to bool', scalar(0, I32, 0, 1) + cast(0, BOOL), (I32, 1, 0, 1), (BOOL, 1, 0, 1)),
+    accepted('CAST of bool', scalar(0, BOOL, 0, 1) + cast(0, I16), (BOOL, 1, 0, 1), (I16, 1, 0, 1)),
+    # "● Sum of 3 of [−4,10]: [−12,30]."
+    accepted('sum of 3', param(0, I16, -4, 10, (3,)) + reduce_node(0, 0, (1,)), (I16, 1, -4, 10, 3),
+             (I16, 1, -12, 30, 1)),
+    # "n is the product of flagged extents, 1 if none."
+    accepted('sum over both axes', THREE_BY_TWO + reduce_node(0, 0, (1, 1)), THREE_BY_TWO_ROW,
+             (I16, 1, -24, 60, 1, 1)),
+    accepted('sum over the first axis', THREE_BY_TWO + reduce_node(0, 0, (1, 0)), THREE_BY_TWO_ROW,
+             (I16, 1, -12, 30, 1, 2)),
+    accepted('sum over the last axis', THREE_BY_TWO + reduce_node(0, 0, (0, 1)), THREE_BY_TWO_ROW,
+             (I16, 1, -8, 20, 3, 1)),
+    accepted('sum over no axis', THREE_BY_TWO + reduce_node(0, 0, (0, 0)), THREE_BY_TWO_ROW,
+             (I16, 1, -4, 10, 3, 2)),
+    accepted('sum of a single number', const(I16, 5) + reduce_node(0, 0, ()), (I16, 0, 5, 5), (I16, 0, 5, 5)),
+    accepted('sum of 1048576', param(0, I32, -2048, 2047, (1024, 1024)) + reduce_node(0, 0, (1, 1)),
+             (I32, 1, -2048, 2047, 1024, 1024), (I32, 1, -2147483648, 2146435072, 1, 1)),
+    # "max, the source's."
+    accepted('greatest over both axes', THREE_BY_TWO + reduce_node(0, 1, (1, 1)), THREE_BY_TWO_ROW,
+             (I16, 1, -4, 10, 1, 1)),
+    accepted('greatest of the whole of i32', param(0, I32, -2147483648, 2147483647, (9,))
+             + reduce_node(0, 1, (1,)),
+             (I32, 1, -2147483648, 2147483647, 9), (I32, 1, -2147483648, 2147483647, 1)),
+]
+
+# ------------------------------------------------------- shapes and devices
+
+TWO_BY_THREE = param(0, I16, -4, 10, (2, 3))
+ROW_2X3 = (I16, 1, -4, 10, 2, 3)
+SHAPES = [
+    # "Rank is 0 to 4. A shape row is rank extents of 1..1048576, then zeros."
+    *(accepted(f'PARAM of shape {shape}', param(0, I16, -4, 10, shape), (I16, 1, -4, 10, *shape))
+      for shape in ((), (1,), (2, 3), (2, 3, 4), (2, 3, 4, 5), (1048576,), (1, 1, 1, 1048576), (1024, 1024),
+                    (32, 32, 32, 32))),
+    # "PERMUTE: result axis k is source axis A_k."
+    accepted('PERMUTE (2,0,3,1)', param(0, I16, 0, 1, (2, 3, 5, 7)) + move(PERMUTE, 0, (2, 0, 3, 1)),
+             (I16, 1, 0, 1, 2, 3, 5, 7), (I16, 1, 0, 1, 5, 2, 7, 3)),
+    accepted('PERMUTE of rank 0', const(I16, 5) + move(PERMUTE, 0, ()), (I16, 0, 5, 5), (I16, 0, 5, 5)),
+    # "FLIP: flag 1 reverses."
+    accepted('FLIP of no axis', TWO_BY_THREE + move(FLIP, 0, (0, 0)), ROW_2X3, ROW_2X3),
+    # "RESHAPE: equal element counts."
+    accepted('RESHAPE to rank 4', TWO_BY_THREE + move(RESHAPE, 0, (1, 3, 1, 2)), ROW_2X3,
+             (I16, 1, -4, 10, 1, 3, 1, 2)),
+    accepted('RESHAPE of one element to rank 0', param(0, I16, -4, 10, (1, 1)) + move(RESHAPE, 0, ()),
+             (I16, 1, -4, 10, 1, 1), (I16, 1, -4, 10)),
+    accepted('RESHAPE of rank 0', const(I16, 5) + move(RESHAPE, 0, (1, 1, 1)), (I16, 0, 5, 5),
+             (I16, 0, 5, 5, 1, 1, 1)),
+    # "EXPAND: same rank, s_k is 1 or s'_k."
+    accepted('EXPAND of an axis of 1', param(0, I16, 0, 1, (1, 3)) + move(EXPAND, 0, (4, 3)),
+             (I16, 1, 0, 1, 1, 3), (I16, 1, 0, 1, 4, 3)),
+    # "PAD with o+s equal to s': accepted; one more: 8."
+    accepted("PAD with o+s equal to s'", TWO_BY_THREE + move(PAD, 0, (3, 5), (1, 2)), ROW_2X3,
+             (I16, 1, -4, 10, 3, 5)),
+    refused("PAD with o+s one more than s', first axis", 8, 1, TWO_BY_THREE + move(PAD, 0, (3, 5), (2, 2))),
+    refused("PAD with o+s one more than s', last axis", 8, 1, TWO_BY_THREE + move(PAD, 0, (3, 5), (1, 3))),
+    accepted('PAD to 1048576', param(0, I16, 0, 1, (1,)) + move(PAD, 0, (LARGE,), (LARGE - 1,)),
+             (I16, 1, 0, 1, 1), (I16, 1, 0, 1, LARGE)),
+    # "SHRINK: same rank, o_k + s'_k ≤ s_k."
+    accepted("SHRINK with o+s' equal to s", TWO_BY_THREE + move(SHRINK, 0, (1, 2), (1, 1)), ROW_2X3,
+             (I16, 1, -4, 10, 1, 2)),
+    refused("SHRINK with o+s' one more than s, first axis", 8, 1,
+            TWO_BY_THREE + move(SHRINK, 0, (1, 2), (2, 1))),
+    refused("SHRINK with o+s' one more than s, last axis", 8, 1,
+            TWO_BY_THREE + move(SHRINK, 0, (1, 2), (1, 2))),
+    # "REDUCE: flagged axes become 1; rank stays." is among the bounds of sums
+]
+# "Binary and WHERE: right-aligned; each axis equal or 1; the larger wins."
+BROADCASTS = (((2, 3), (3,), (2, 3)), ((3,), (2, 3), (2, 3)), ((2, 1), (3,), (2, 3)), ((), (2, 3), (2, 3)),
+              ((2, 3), (), (2, 3)), ((1,), (), (1,)), ((1, 1), (1,), (1, 1)), ((5, 4), (5, 4), (5, 4)),
+              ((4, 1, 3, 1), (2, 1, 5), (4, 2, 3, 5)))
+SHAPES += [accepted(f'broadcast of {first} and {second}', large(first, second) + apply(MUL, 0, 1),
+                    (I32, 1, 0, 1, *first), (I32, 1, 0, 1, *second), (I32, 1, 0, 1, *result))
+           for first, second, result in BROADCASTS]
+SHAPES += [accepted('WHERE of three shapes', param(0, BOOL, 0, 1, (2, 1, 1)) + param(1, I16, 0, 1, (3, 1))
+                    + param(2, I16, 0, 1, (4,)) + apply(WHERE, 0, 1, 2),
+                    (BOOL, 1, 0, 1, 2, 1, 1), (I16, 1, 0, 1, 3, 1), (I16, 1, 0, 1, 4),
+                    (I16, 1, 0, 1, 2, 3, 4))]
+
+DEVICES = [
+    # "CONST has device 0. PARAM and LOAD name theirs, 1..255."
+    accepted('the first and the last device',
+             scalar(0, I16, 0, 1, 1) + scalar(1, I16, 0, 1, 255) + load(0, 255) + load(1, 1),
+             (I16, 1, 0, 1), (I16, 255, 0, 1), (I16, 255, 0, 1), (I16, 1, 0, 1)),
+    accepted('LOAD of a CONST', const(I16, 5) + load(0, 7), (I16, 0, 5, 5), (I16, 7, 5, 5)),
+    # "Others take the one non-zero device of their sources, or 0"
+    accepted('the one device from either side',
+             const(I16, 5) + scalar(0, I16, 0, 1, 7) + apply(ADD, 0, 1) + apply(ADD, 1, 0)
+             + apply(ADD, 0, 0) + apply(ADD, 1, 1) + move(FLIP, 1, ()),
+             (I16, 0, 5, 5), (I16, 7, 0, 1), (I16, 7, 5, 6), (I16, 7, 5, 6), (I16, 0, 10, 10), (I16, 7, 0, 2),
+             (I16, 7, 0, 1)),
+    accepted('the one device from the condition',
+             scalar(0, BOOL, 0, 1, 7) + const(I16, 5) + apply(WHERE, 0, 1, 1),
+             (BOOL, 7, 0, 1), (I16, 0, 5, 5), (I16, 7, 5, 5)),
+    accepted('the one device from the third source',
+             const(BOOL, 1) + const(I16, 5) + scalar(0, I16, 0, 1, 7) + apply(WHERE, 0, 1, 2),
+             (BOOL, 0, 1, 1), (I16, 0, 5, 5), (I16, 7, 0, 1), (I16, 7, 0, 5)),
+]
+
+# ---------------------------------------------------- refusals of the check
+
+LENGTHS = [
+    # 1 "length no multiple of 17, or not 1..256 nodes"
+    refused('no words', 1, 0, []),
+    refused('one word', 1, 0, [0]),
+    refused('one word too few', 1, 0, const(I16, 5)[:16]),
+    refused('one word too many', 1, 0, const(I16, 5) + [0]),
+    refused('a node cut short', 1, 0, (const(I16, 5) * 2)[:33]),
+    refused('257 nodes', 1, 0, const(I16, 5) * 257),
+    accepted('256 nodes', const(I16, 5) * 256, *[(I16, 0, 5, 5)] * 256),
+]
+OPERATION_UNKNOWN = [
+    # 2 "operation not 0..20"
+    refused('operation 21', 2, 0, node(21)),
+    refused('operation −1', 2, 0, node(-1)),
+    refused('operation 2^63 − 1', 2, 0, node(BIG - 1)),
+    refused('operation −2^63', 2, 0, node(-BIG)),
+    refused('operation 2^32, whose low half is CONST', 2, 0, changed(const(I16, 5), (0, 2 ** 32))),
+    refused('operation 21 in the last of three nodes', 2, 2, const(I16, 5) * 2 + node(21)),
+    refused('operation 21 in the last of 256 nodes', 2, 255, const(I16, 5) * 255 + node(21)),
+]
+SOURCES = [
+    # 4 "source negative or not earlier"
+    refused('source −1', 4, 1, const(I16, 5) + load(-1, 1)),
+    refused('source −2^63', 4, 1, const(I16, 5) + load(-BIG, 1)),
+    refused('source 2^63 − 1', 4, 1, const(I16, 5) + load(BIG - 1, 1)),
+    refused('source 2^32, whose low half is node 0', 4, 1, const(I16, 5) + load(2 ** 32, 1)),
+    refused('a node as its own source', 4, 1, const(I16, 5) + load(1, 1)),
+    refused('the first node as its own source', 4, 0, load(0, 1)),
+    refused('a later node as source', 4, 1, const(I16, 5) + load(2, 1) + const(I16, 5)),
+    refused('second source not earlier', 4, 1, const(I16, 5) + apply(ADD, 0, 1)),
+    refused('second source negative', 4, 1, const(I16, 5) + apply(ADD, 0, -1)),
+    refused('third source not earlier', 4, 2, const(BOOL, 1) + const(I16, 5) + apply(WHERE, 0, 1, 2)),
+    refused('third source negative', 4, 2, const(BOOL, 1) + const(I16, 5) + apply(WHERE, 0, 1, -1)),
+    refused('condition not earlier', 4, 2, const(BOOL, 1) + const(I16, 5) + apply(WHERE, 2, 1, 1)),
+]
+DTYPES = [
+    # 5 "word 4 used and not 0..3"
+    *(refused(f'type {dtype} of {name}', 5, place, table) for dtype in (4, -1, BIG - 1, -BIG, 2 ** 32)
+      for name, place, table in (('CONST', 0, const(dtype, 0)),
+                                 ('CAST', 1, const(BOOL, 0) + cast(0, dtype)))),
+    refused('type 4 of PARAM', 5, 0, scalar(0, 4, 0, 1)),
+    refused('type −1 of PARAM', 5, 0, scalar(0, -1, 0, 1)),
+]
+BOTH_BOOL = const(BOOL, 1) * 2
+TYPE_RULES = [
+    # "9 ADD, 10 MUL, 11 MAX, 12 IDIV, 13 MOD: source, not bool", "14 CMPLT (not bool)": 6 "bool misplaced"
+    *(refused(f'{OPERATIONS[op][0]} of bools', 6, 2, BOTH_BOOL + apply(op, 0, 1))
+      for op in (ADD, MUL, MAX, IDIV, MOD, CMPLT)),
+    # 6 "operands differ"
+    *(refused(f'{OPERATIONS[op][0]} of i16 and i32', 6, 2, const(I16, 1) + const(I32, 1) + apply(op, 0, 1))
+      for op in (ADD, MUL, MAX, IDIV, MOD, CMPLT, CMPNE)),
+    refused('ADD of bool and u8', 6, 2, const(BOOL, 1) + const(U8, 1) + apply(ADD, 0, 1)),
+    refused('ADD of u8 and bool', 6, 2, const(BOOL, 1) + const(U8, 1) + apply(ADD, 1, 0)),
+    refused('CMPNE of bool and u8', 6, 2, const(BOOL, 1) + const(U8, 1) + apply(CMPNE, 0, 1)),
+    # "15 CMPNE" has no "not bool"
+    accepted('CMPNE of bools', BOTH_BOOL + apply(CMPNE, 0, 1), (0, 0, 1, 1), (0, 0, 1, 1), (0, 0, 0, 0)),
+    # "16 AND, 17 OR (bool only)"
+    *(refused(f'{OPERATIONS[op][0]} of u8 in place {k}', 6, 2,
+              const(U8, 1) + const(BOOL, 1) + apply(op, *sources))
+      for op in (AND, OR) for k, sources in (('both', (0, 0)), ('one', (0, 1)), ('two', (1, 0)))),
+    # "WHERE condition not bool"
+    refused('WHERE with a condition of u8', 6, 1, const(U8, 1) + apply(WHERE, 0, 0, 0)),
+    refused('WHERE of i16 and i32', 6, 3, const(BOOL, 1) + const(I16, 1) + const(I32, 1)
+            + apply(WHERE, 0, 1, 2)),
+    refused('WHERE of bool and i16', 6, 2, const(BOOL, 1) + const(I16, 1) + apply(WHERE, 0, 0, 1)),
+    accepted('WHERE of bools', BOTH_BOOL + apply(WHERE, 0, 1, 1), (0, 0, 1, 1), (0, 0, 1, 1), (0, 0, 1, 1)),
+    # "18 WHERE: second source"
+    accepted('WHERE has the type of the second source',
+             const(BOOL, 1) + const(I32, 5) + apply(WHERE, 0, 1, 1),
+             (0, 0, 1, 1), (3, 0, 5, 5), (3, 0, 5, 5)),
+    # "19 REDUCE (not bool; number 0 sum, 1 max)"
+    refused('sum of bools', 6, 1, const(BOOL, 1) + reduce_node(0, 0, ())),
+    refused('greatest of bools', 6, 1, const(BOOL, 1) + reduce_node(0, 1, ())),
+]
+
+# ------------------------------------------------------------------- rule 7
+
+SIXTEEN = [scalar(k, U8, 0, 9) for k in range(16)]
+PARAM_RULES = [
+    # "the k-th PARAM from zero has slot (word 5) k ≤ 15"
+    refused('the first PARAM with slot 1', 7, 0, scalar(1, U8, 0, 9)),
+    refused('the first PARAM with slot −1', 7, 0, scalar(-1, U8, 0, 9)),
+    refused('the first PARAM with slot 2^32', 7, 0, scalar(2 ** 32, U8, 0, 9)),
+    refused('the second PARAM with slot 0', 7, 1, scalar(0, U8, 0, 9) * 2),
+    refused('the second PARAM with slot 2', 7, 1, scalar(0, U8, 0, 9) + scalar(2, U8, 0, 9)),
+    accepted('slots count PARAMs', scalar(0, U8, 0, 9) + const(U8, 5) + scalar(1, U8, 0, 9),
+             (1, 1, 0, 9), (1, 0, 5, 5), (1, 1, 0, 9)),
+    refused('a slot that counts nodes', 7, 2, scalar(0, U8, 0, 9) + const(U8, 5) + scalar(2, U8, 0, 9)),
+    accepted('sixteen PARAMs', sum(SIXTEEN, []), *[(1, 1, 0, 9)] * 16),
+    refused('the 17th PARAM with slot 16', 7, 16, sum(SIXTEEN, []) + scalar(16, U8, 0, 9)),
+    refused('the 17th PARAM with slot 0', 7, 16, sum(SIXTEEN, []) + scalar(0, U8, 0, 9)),
+    refused('the 17th PARAM with slot 15', 7, 16, sum(SIXTEEN, []) + scalar(15, U8, 0, 9)),
+    # "and low ≤ high"
+    refused('low one above high', 7, 0, scalar(0, I16, 1, 0)),
+    refused('low 2^63 − 1 and high −2^63', 7, 0, scalar(0, I16, BIG - 1, -BIG)),
+    # "a device used is 1..255"
+    *(refused(f'device {device} of {name}', 7, place, table)
+      for device in (0, -1, 256, BIG - 1, -BIG, 2 ** 32 + 1)
+      for name, place, table in (('PARAM', 0, scalar(0, U8, 0, 9, device)),
+                                 ('LOAD', 1, const(U8, 5) + load(0, device)))),
+    # "REDUCE's number is 0 or 1"
+    *(refused(f'number {number} of REDUCE', 7, 1, TWO_BY_THREE + reduce_node(0, number, (1, 0)))
+      for number in (2, -1, BIG - 1, -BIG, 2 ** 32)),
+]
+# "PERMUTE's row is 0..rank−1 once each .. all with zeros after"
+PERMUTE_ROWS = ((0, 0), (1, 1), (1, 2), (-1, 0), (1, -1), (2, 0), (1, 0, 2), (1, 0, 0, 3), (1, 0, 1),
+                (1, 0, -1), (1, 2 ** 32),
+                (BIG - 1, 0), (-BIG, 1), ())
+# "FLIP's and REDUCE's are flags"
+FLAG_ROWS = ((2, 0), (0, 2), (-1, 0), (0, -1), (1, 1, 1), (0, 0, 0, 1), (0, 0, -1), (BIG - 1, 0), (0, -BIG),
+             (2 ** 32, 0))
+# "B holds 0..1048576 over the source's rank"
+OFFSET_ROWS = ((-1, 0), (0, -1), (LARGE + 1, 0), (0, LARGE + 1), (0, 0, 1), (0, 0, 0, 1), (0, 0, -1),
+               (BIG - 1, 0), (0, -BIG), (2 ** 32, 0))
+# "shape rows as above": "rank extents of 1..1048576, then zeros"
+SHAPE_ROWS = ((0, 6), (2, 0, 3), (0, 0, 0, 6), (2, 3, 0, 1), (-1, 3), (2, -3), (LARGE + 1,), (6, LARGE + 1),
+              (BIG - 1,), (6, 1, 1, -BIG), (2 ** 32 + 6,))
+ROWS = [
+    *(refused(f'PERMUTE row {row}', 7, 1, TWO_BY_THREE + move(PERMUTE, 0, row)) for row in PERMUTE_ROWS),
+    *(refused(f'FLIP row {row}', 7, 1, TWO_BY_THREE + move(FLIP, 0, row)) for row in FLAG_ROWS),
+    *(refused(f'REDUCE row {row}', 7, 1, TWO_BY_THREE + reduce_node(0, 1, row)) for row in FLAG_ROWS),
+    *(refused(f'PAD offsets {row}', 7, 1, TWO_BY_THREE + move(PAD, 0, (2, 3), row)) for row in OFFSET_ROWS),
+    *(refused(f'SHRINK offsets {row}', 7, 1, TWO_BY_THREE + move(SHRINK, 0, (2, 3), row))
+      for row in OFFSET_ROWS),
+    *(refused(f'PARAM shape row {row}', 7, 0, param(0, I16, -4, 10, row)) for row in SHAPE_ROWS),
+    *(refused(f'{OPERATIONS[op][0]} shape row {row}', 7, 1, TWO_BY_THREE + move(op, 0, row))
+      for op in (RESHAPE, EXPAND, PAD, SHRINK) for row in SHAPE_ROWS[:7]),
+    refused('PERMUTE of rank 0 with a row', 7, 1, const(I16, 5) + move(PERMUTE, 0, (1,))),
+    refused('FLIP of rank 0 with a flag', 7, 1, const(I16, 5) + move(FLIP, 0, (1,))),
+    # a row that is measured by the source's rank is 7, a shape row of another rank is 8
+    refused('PAD to rank 2 with an offset past the rank', 7, 1,
+            param(0, I16, 0, 1, (2,)) + move(PAD, 0, (3, 3), (1, 1))),
+    refused('PAD to rank 2 with offsets of the rank', 8, 1,
+            param(0, I16, 0, 1, (2,)) + move(PAD, 0, (3, 3), (1,))),
+]
+
+# ------------------------------------------------------------- rules 8 to 12
+
+SHAPES_DISAGREE = [
+    # 8 "shapes disagree"
+    refused('RESHAPE to one element more', 8, 1, TWO_BY_THREE + move(RESHAPE, 0, (7,))),
+    refused('RESHAPE to fewer', 8, 1, TWO_BY_THREE + move(RESHAPE, 0, (2, 2))),
+    refused('RESHAPE of six to rank 0', 8, 1, TWO_BY_THREE + move(RESHAPE, 0, ())),
+    refused('EXPAND to a higher rank', 8, 1, param(0, I16, 0, 1, (1, 3)) + move(EXPAND, 0, (2, 1, 3))),
+    refused('EXPAND to a lower rank', 8, 1, param(0, I16, 0, 1, (1, 3)) + move(EXPAND, 0, (3,))),
+    refused('EXPAND of an axis that is not 1', 8, 1, TWO_BY_THREE + move(EXPAND, 0, (4, 3))),
+    refused('EXPAND to less', 8, 1, TWO_BY_THREE + move(EXPAND, 0, (2, 1))),
+    refused('PAD to a higher rank', 8, 1, TWO_BY_THREE + move(PAD, 0, (2, 3, 1), (0, 0))),
+    refused('PAD to a lower rank', 8, 1, TWO_BY_THREE + move(PAD, 0, (6,), (0, 0))),
+    refused('PAD to less', 8, 1, TWO_BY_THREE + move(PAD, 0, (2, 2), (0, 0))),
+    refused('PAD with the greatest offset', 8, 1, TWO_BY_THREE + move(PAD, 0, (2, 3), (LARGE, 0))),
+    refused('SHRINK to a higher rank', 8, 1, TWO_BY_THREE + move(SHRINK, 0, (2, 3, 1), (0, 0))),
+    refused('SHRINK to a lower rank', 8, 1, TWO_BY_THREE + move(SHRINK, 0, (2,), (0, 0))),
+    refused('SHRINK to more', 8, 1, TWO_BY_THREE + move(SHRINK, 0, (2, 4), (0, 0))),
+    refused('SHRINK with the greatest offset', 8, 1, TWO_BY_THREE + move(SHRINK, 0, (1, 1), (0, LARGE))),
+    *(refused(f'MUL of {first} and {second}', 8, 2, large(first, second) + apply(MUL, 0, 1))
+      for first, second in (((2, 3), (2,)), ((2, 3), (3, 2)), ((2,), (3,)), ((2, 1, 3), (2, 2)),
+                            ((3, 1), (2, 1)))),
+    *(refused(f'WHERE of {shapes}', 8, 3, param(0, BOOL, 0, 1, shapes[0]) + param(1, I16, 0, 1, shapes[1])
+              + param(2, I16, 0, 1, shapes[2]) + apply(WHERE, 0, 1, 2))
+      for shapes in (((2,), (3,), (1,)), ((2,), (1,), (3,)), ((1,), (2,), (3,)), ((2, 1), (3,), (3, 1)))),
+    # 8 "or over 1048576 elements"
+    *(refused(f'PARAM of shape {shape}', 8, 0, param(0, I16, 0, 1, shape))
+      for shape in ((1024, 1025), (LARGE, 2), (2, 1, 1, LARGE), (LARGE,) * 4, (17, 61681),
+                    (65536, 65536, 65536, 65536))),
+    refused('EXPAND over 1048576', 8, 1, large((1, 1)) + move(EXPAND, 0, (1024, 1025))),
+    refused('PAD over 1048576', 8, 1, large((1, 1)) + move(PAD, 0, (1024, 1025), (0, 0))),
+    refused('MUL over 1048576', 8, 2, large((1024, 1), (1025,)) + apply(MUL, 0, 1)),
+    refused('WHERE over 1048576', 8, 3, param(0, BOOL, 0, 1, (2, 1, 1)) + param(1, I32, 0, 1, (512, 1))
+            + param(2, I32, 0, 1, (1025,)) + apply(WHERE, 0, 1, 2)),
+]
+CONDITION, FIRST, SECOND = scalar(0, BOOL, 0, 1, 1), scalar(1, I16, 0, 1, 1), scalar(2, I16, 0, 1, 1)
+TWO_DEVICES = [
+    # 9 "two devices"
+    *(refused(f'{OPERATIONS[op][0]} of devices 1 and 2', 9, 2,
+              scalar(0, dtype, 1, 1, 1) + scalar(1, dtype, 1, 1, 2) + apply(op, 0, 1))
+      for op, dtype in ((ADD, I16), (MUL, I16), (MAX, I16), (IDIV, I16), (MOD, I16), (CMPLT, I16),
+                        (CMPNE, I16), (AND, BOOL), (OR, BOOL))),
+    refused('WHERE with another device of the condition', 9, 3,
+            changed(CONDITION, (6, 2)) + FIRST + SECOND + apply(WHERE, 0, 1, 2)),
+    refused('WHERE with another device of the second source', 9, 3,
+            CONDITION + changed(FIRST, (6, 2)) + SECOND + apply(WHERE, 0, 1, 2)),
+    refused('WHERE with another device of the third source', 9, 3,
+            CONDITION + FIRST + changed(SECOND, (6, 255)) + apply(WHERE, 0, 1, 2)),
+    refused('WHERE with three devices', 9, 3,
+            CONDITION + changed(FIRST, (6, 2)) + changed(SECOND, (6, 3)) + apply(WHERE, 0, 1, 2)),
+]
+DIVISORS = [
+    # 10 "divisor bounds contain 0"
+    *(refused(f'{OPERATIONS[op][0]} by {ends}', 10, 2,
+              scalar(0, I16, 1, 7) + scalar(1, I16, *ends) + apply(op, 0, 1))
+      for op in (IDIV, MOD) for ends in ((0, 0), (0, 1), (-1, 0), (-1, 1), (-32768, 32767))),
+]
+LEAVES = [
+    # 11 "bounds leave the type"; "A CONST number or PARAM limit outside its type is 11."
+    *(refused(f'CONST {value} of type {dtype}', 11, 0, const(dtype, value))
+      for dtype, value in ((BOOL, 2), (BOOL, -1), (U8, 256), (U8, -1), (I16, 32768), (I16, -32769),
+                           (I32, 2147483648), (I32, -2147483649), (I32, BIG - 1), (I32, -BIG),
+                           (U8, 2 ** 32))),
+    *(refused(f'PARAM {low} to {high} of type {dtype}', 11, 0, scalar(0, dtype, low, high))
+      for dtype, low, high in ((BOOL, 0, 2), (BOOL, -1, 1), (U8, 0, 256), (U8, -1, 255), (I16, 0, 32768),
+                               (I16, -32769, 0), (I32, 0, 2147483648), (I32, -2147483649, 0),
+                               (I32, -BIG, BIG - 1))),
+    # "● [−20000,20000] to itself: refused 11."
+    refused('i16 [−20000,20000] added to itself', 11, 1, scalar(0, I16, -20000, 20000) + apply(ADD, 0, 0)),
+    refused('ADD one above', 11, 2, scalar(0, U8, 0, 6) + const(U8, 250) + apply(ADD, 0, 1)),
+    refused('ADD one below', 11, 2, scalar(0, I16, -2, 0) + const(I16, -32767) + apply(ADD, 0, 1)),
+    # "● u8 [0,255] times 2: refused 11."
+    refused('u8 [0,255] times 2', 11, 2, scalar(0, U8, 0, 255) + const(U8, 2) + apply(MUL, 0, 1)),
+    refused('MUL below', 11, 2, scalar(0, I16, -200, 1) + scalar(1, I16, 1, 200) + apply(MUL, 0, 1)),
+    refused('MUL of i32 far out', 11, 1, scalar(0, I32, -2147483648, 2147483647) + apply(MUL, 0, 0)),
+    # "● i32 [−2147483648,0] by −1: refused 11."
+    refused('i32 [−2147483648,0] by −1', 11, 2,
+            scalar(0, I32, -2147483648, 0) + const(I32, -1) + apply(IDIV, 0, 1)),
+    refused('CAST of 256 to u8', 11, 1, scalar(0, I16, 0, 256) + cast(0, U8)),
+    refused('CAST of −1 to u8', 11, 1, scalar(0, I16, -1, 255) + cast(0, U8)),
+    refused('CAST of 2 to bool', 11, 1, scalar(0, U8, 0, 2) + cast(0, BOOL)),
+    refused('CAST of i32 to i16', 11, 1, scalar(0, I32, -32769, 0) + cast(0, I16)),
+    refused('sum one above', 11, 1, param(0, U8, 0, 64, (4,)) + reduce_node(0, 0, (1,))),
+    refused('sum below', 11, 1, param(0, I16, -16385, 0, (2,)) + reduce_node(0, 0, (1,))),
+    refused('sum of 1048576 far out', 11, 1, param(0, I32, -2147483648, 2147483647, (LARGE,))
+            + reduce_node(0, 0, (1,))),
+]
+# "all nodes together over 4194304 elements"
+FULL = large(*[(LARGE,)] * 4)
+OVER = FULL + const(I32, 1)
+TOTALS = [
+    accepted('4194304 elements together', FULL, *[(I32, 1, 0, 1, LARGE)] * 4),
+    refused('4194305 elements together', 12, 0, OVER),
+    refused('4194305 elements by FLIP', 12, 0, large((LARGE,)) + move(FLIP, 0, (1,)) * 3 + const(I32, 1)),
+]
+ROOMS = [
+    # 14 "a buffer written to is too short"; "A check writes eight words a node"; "Buffer places past what any
+    # call writes stay as they were."
+    refused('no room for a check', 14, 0, const(I16, 5), room=0),
+    refused('room one short', 14, 0, const(I16, 5), room=7),
+    accepted('room exact', const(I16, 5), (I16, 0, 5, 5), room=8),
+    accepted('room to spare', const(I16, 5), (I16, 0, 5, 5), room=29),
+    refused('room for two of three nodes', 14, 0, const(I16, 5) * 3, room=23),
+]
+
+# -------------------------------------------------------- order of the check
+# "within a node 2 to 11 by number": each pair that one node can break together; the answer is the first. In
+# the rest of a node whose operation is unknown nothing is used, so 2 stands against its words at large.
+
+I16_PAIR = scalar(0, I16, 0, 32767) + scalar(1, I16, 0, 1)
+DIVIDE = param(0, I32, -2147483648, 0, (2,)) + param(1, I32, -1, 0, (2,))
+OTHER_SHAPE = param(0, I32, -2147483648, 0, (2,)) + param(1, I32, -1, 0, (3,))
+OTHER_DEVICE = param(0, I32, -2147483648, 0, (2,)) + param(1, I32, -1, 0, (2,), 2)
+PAIRS = {
+    (2, 3): [node(21, {k: 1 for k in range(1, 17)})],
+    (2, 4): [node(21, {1: -1, 2: -1, 3: -1})],
+    (2, 5): [node(21, {4: 9})],
+    (2, 7): [node(21, {5: 9, 6: -1, 9: -1, 13: -1})],
+    (3, 4): [changed(cast(0, I16), (2, 1))],
+    (3, 5): [changed(const(4, 0), (1, 1))],
+    (3, 6): [I16_PAIR + const(U8, 1), changed(apply(MAX, 0, 2), (3, 1))],
+    (3, 7): [I16_PAIR, changed(load(0, 0), (2, 1))],
+    (3, 8): [I16_PAIR, changed(move(RESHAPE, 0, (2,)), (2, 1))],
+    (3, 9): [OTHER_DEVICE, changed(apply(MAX, 0, 1), (3, 1))],
+    (3, 10): [DIVIDE, changed(apply(MOD, 0, 1), (16, 1))],
+    (3, 11): [changed(const(I16, 32768), (1, 1))],
+    (4, 5): [cast(0, 4)],
+    (4, 6): [const(BOOL, 1), apply(ADD, 0, 1)],
+    (4, 7): [load(0, 0)],
+    (4, 8): [move(RESHAPE, 0, (LARGE,) * 4)],
+    (4, 9): [scalar(0, BOOL, 0, 1, 1) + scalar(1, I16, 0, 1, 2), apply(WHERE, 0, 1, 2)],
+    (4, 10): [const(I16, 0), apply(IDIV, 1, 0)],
+    (4, 11): [I16_PAIR, apply(ADD, 0, 2), I16_PAIR],
+    (5, 7): [scalar(1, 4, 0, 1)],
+    (5, 8): [param(0, 4, 0, 1, (LARGE, 2))],
+    (5, 11): [const(4, 2 ** 40)],
+    (6, 7): [const(BOOL, 1), reduce_node(0, 2, ())],
+    (6, 8): [param(0, U8, 0, 1, (2,)) + param(1, I16, 0, 1, (3,)), apply(MAX, 0, 1)],
+    (6, 9): [scalar(0, I16, 0, 1, 1) + scalar(1, U8, 0, 1, 2), apply(ADD, 0, 1)],
+    (6, 10): [const(U8, 0) + const(I16, 1), apply(IDIV, 1, 0)],
+    (6, 11): [param(0, BOOL, 0, 1, (3,)), reduce_node(0, 0, (1,))],
+    (7, 8): [param(0, I16, 0, 1, (2,)), move(PAD, 0, (2,), (1, 1))],
+    (7, 11): [param(0, I16, 0, 32767, (2,)), reduce_node(0, 0, (1, 1))],
+    (8, 9): [param(0, I16, 0, 1, (2,), 1) + param(1, I16, 0, 1, (3,), 2), apply(ADD, 0, 1)],
+    (8, 10): [OTHER_SHAPE, apply(MOD, 0, 1)],
+    (8, 11): [param(0, I16, 0, 32768, (LARGE, 2))],
+    (9, 10): [OTHER_DEVICE, apply(MOD, 0, 1)],
+    (9, 11): [scalar(0, I16, 0, 32767, 1) + scalar(1, I16, 0, 1, 2), apply(ADD, 0, 1)],
+    (10, 11): [DIVIDE, apply(IDIV, 0, 1)],
+}
+# 2 with 6 and 8 to 11: those rules are asked of an operation. 5 is a rule of CONST, PARAM and CAST, none of
+# which has a type rule, two devices or a divisor; an operation with a row or a number of rule 7 has neither
+# two sources nor a divisor.
+NEVER_TOGETHER = {(2, 6), (2, 8), (2, 9), (2, 10), (2, 11), (5, 6), (5, 9), (5, 10), (7, 9), (7, 10)}
+# more ways of a pair
+MORE_PAIRS = (
+    ((4, 5), [const(I16, 5), cast(-1, -1)]), ((4, 6), [const(U8, 1), apply(AND, 0, 5)]),
+    ((4, 7), [const(I16, 5), move(FLIP, 1, (2,))]),
+    ((5, 7), [scalar(0, 4, 1, 0)]), ((5, 7), [scalar(0, 4, 0, 1, 0)]),
+    ((6, 10), [const(BOOL, 0), apply(MOD, 0, 0)]),
+    ((7, 8), [param(1, I16, 0, 1, (LARGE, 2))]), ((7, 8), [TWO_BY_THREE, move(PAD, 0, (2, 3, 0, 1), (9, 9))]),
+    ((7, 8), [TWO_BY_THREE, move(SHRINK, 0, (9, 9), (0, -1))]), ((7, 11), [scalar(1, I16, 0, 32768)]),
+    ((7, 11), [scalar(0, I16, 40000, 32768)]),
+    ((8, 11), [param(0, I16, 0, 32767, (2,)) + param(1, I16, 0, 1, (3,)), apply(ADD, 0, 1)]),
+)
+
+
+def pair_case(pair, parts):
+    """A node that breaks both rules after the nodes before it, if any; nodes after it may follow."""
+    before = parts[0] if len(parts) > 1 else []
+    return refused(f'{pair[0]} before {pair[1]}', pair[0], len(before) // 17, sum(parts, []))
+
+
+# One node for each rule of a node, over the nodes 0 to 2 of GROUND.
+GROUND = scalar(0, I16, 0, 32767, 1) + scalar(1, I16, 0, 1, 2) + const(BOOL, 1)
+BROKEN = {2: node(21), 3: changed(const(I16, 5), (1, 1)), 4: load(-1, 1), 5: const(4, 0), 6: apply(MAX, 0, 2),
+          7: load(0, 0), 8: move(RESHAPE, 0, (2,)), 9: apply(MAX, 0, 1), 10: apply(IDIV, 0, 0),
+          11: apply(ADD, 0, 0)}
+ORDER = [
+    *(pair_case(pair, parts) for pair, parts in (*PAIRS.items(), *MORE_PAIRS)),
+    # "Order: 1; nodes in turn": 1 before any node, before 12 and before 14
+    refused('1 before 2', 1, 0, node(21) + [0]),
+    refused('1 before 3', 1, 0, BROKEN[3] + [0]),
+    refused('1 before 11', 1, 0, const(I16, 32768) + [0]),
+    refused('1 before 12', 1, 0, OVER + [0]),
+    refused('1 before 14', 1, 0, [], room=0),
+    # "nodes in turn, within a node 2 to 11 by number": an earlier node wins over a lower number
+    *(refused(f'{number} of an earlier node before lower numbers', number, 3,
+              GROUND + sum((BROKEN[k] for k in range(number, 1, -1)), [])) for number in range(3, 12)),
+    # "nodes in turn ..; 12": a late node wins
+    *(refused(f'{number} of a late node before 12', number, 7,
+              GROUND + [w for k in range(4) for w in param(2 + k, I32, 0, 1, (LARGE,))]
+              + BROKEN[number]) for number in range(2, 12)),
+    # "12 ..; then 13, 14": the check's refusals come before the room
+    *(refused(f'{number} before 14', number, 3, GROUND + BROKEN[number], room=0) for number in range(2, 12)),
+    refused('12 before 14', 12, 0, OVER, room=0),
+]
+
+CHECKS = [*BY_OPERATION, *UNUSED, *(bounds_case(*row) for row in BOUNDS), *OTHER_BOUNDS, *SHAPES, *DEVICES,
+          *LENGTHS, *OPERATION_UNKNOWN,
+          *SOURCES, *DTYPES, *TYPE_RULES, *PARAM_RULES, *ROWS, *SHAPES_DISAGREE, *TWO_DEVICES, *DIVISORS,
+          *LEAVES, *TOTALS, *ROOMS, *ORDER]
+
+# ------------------------------------------------------------ packed plans
+
+FIVE = const(I16, 5)
+
+
+def word_written(text, value):
+    """A CONST of i32 whose number is written by the bytes."""
+    return unpacks(f'{text} is the word {value}', '01 00 06 ' + text, 1, const(I32, value))
+
+
+UNPACKED = [
+    # "For bytes 01 00 04 0A": type 2, number 5
+    unpacks('one CONST', '01 00 04 0A', 1, FIVE),
+    # "300 as a word is D8 04."
+    word_written('D8 04', 300),
+    # "other words n are written as 2n, or −2n−1 below zero"
+    word_written('00', 0), word_written('01', -1), word_written('02', 1), word_written('03', -2),
+    word_written('7E', 63), word_written('7F', -64),
+    # "Numbers are written in groups of seven bits, lowest first, .. shortest form, at most 5 bytes"
+    word_written('80 01', 64), word_written('81 01', -65), word_written('FE FF 03', 32767),
+    word_written('FF FF 03', -32768),
+    word_written('80 80 01', 8192), word_written('80 80 80 01', 1048576),
+    word_written('80 80 80 80 01', 134217728),
+    word_written('FE FF FF FF 0F', 2147483647), word_written('FF FF FF FF 0F', -2147483648),
+    word_written('FE FF FF FF 7F', 17179869183), word_written('FF FF FF FF 7F', -17179869184),
+    # "for each node its operation and its used words in rising order"; "zeros elsewhere"
+    unpacks('PARAM', '01 01 04 00 0E 07 14 04 06 08 0A', 1,
+            [1, 0, 0, 0, 2, 0, 7, -4, 10, 2, 3, 4, 5, 0, 0, 0, 0]),
+    unpacks('PERMUTE', '01 02 00 02 00 04 06', 1, [2, 0, 0, 0, 0, 0, 0, 0, 0, 1, 0, 2, 3, 0, 0, 0, 0]),
+    unpacks('PAD', '01 06 02 04 06 08 0A 0C 0E 10 12', 1,
+            [6, 1, 0, 0, 0, 0, 0, 0, 0, 2, 3, 4, 5, 6, 7, 8, 9]),
+    unpacks('CAST', '01 08 02 06', 1, [8, 1, 0, 0, 3, 0, 0, 0, 0, 0, 0, 0, 0, 0, 0, 0, 0]),
+    unpacks('WHERE', '01 12 02 04 06', 1, [18, 1, 2, 3, 0, 0, 0, 0, 0, 0, 0, 0, 0, 0, 0, 0, 0]),
+    unpacks('REDUCE', '01 13 02 04 06 08 0A 0C', 1, [19, 1, 0, 0, 0, 2, 0, 0, 0, 3, 4, 5, 6, 0, 0, 0, 0]),
+    unpacks('LOAD', '01 14 02 0E', 1, [20, 1, 0, 0, 0, 0, 7, 0, 0, 0, 0, 0, 0, 0, 0, 0, 0]),
+    *(unpacks(f'{OPERATIONS[op][0]}', f'01 {op:02X} 02 04 06 08 0A', 1,
+              [op, 1, 0, 0, 0, 0, 0, 0, 0, 2, 3, 4, 5, 0, 0, 0, 0])
+      for op in (FLIP, RESHAPE, EXPAND)),
+    unpacks('SHRINK', '01 07 02 04 06 08 0A 0C 0E 10 12', 1,
+            [7, 1, 0, 0, 0, 0, 0, 0, 0, 2, 3, 4, 5, 6, 7, 8, 9]),
+    *(unpacks(f'{OPERATIONS[op][0]}', f'01 {op:02X} 02 03', 1, [op, 1, -2] + [0] * 14)
+      for op in (ADD, MUL, MAX, IDIV, MOD, CMPLT, CMPNE, AND, OR)),
+    # "unpacking also answers the node count"; the rules of a check are not asked
+    unpacks('three nodes', '03 00 04 0A 14 00 02 09 00 02', 3, FIVE + load(0, 1) + apply(ADD, 0, 1)),
+    unpacks('256 nodes', '80 02' + '00 04 0A' * 256, 256, FIVE * 256),
+    # 14 "a buffer written to is too short": 17 words a node of the count
+    unpacks('room exact', '01 00 04 0A', 1, FIVE, room=17),
+    unpacks('room exact for two', '02 00 04 0A 00 04 0A', 2, FIVE * 2, room=34),
+    unpack_refused('room one short', '01 00 04 0A', 14, 0, room=16),
+    unpack_refused('room one short for two', '02 00 04 0A 00 04 0A', 14, 0, room=33),
+    unpack_refused('no room', '01 00 04 0A', 14, 0, room=0),
+]
+BYTES_REFUSED = [
+    # 20 "bytes end before or inside a number", "its first byte"; "Empty bytes: refused 20 at 0."
+    unpack_refused('empty bytes', '', 20, 0),
+    unpack_refused('the end inside the count', '81', 20, 0),
+    unpack_refused('the end after the count', '01', 20, 1),
+    unpack_refused('the end inside an operation', '01 80', 20, 1),
+    unpack_refused('the end after an operation', '01 00', 20, 2),
+    unpack_refused('the end before the last word', '01 00 04', 20, 3),
+    unpack_refused('the end inside the last word', '01 00 04 D8', 20, 3),
+    unpack_refused('the end after four bytes of a number', '01 00 04 80 80 80 80', 20, 3),
+    unpack_refused('the end after the first of two nodes', '02 00 04 0A', 20, 4),
+    unpack_refused('the end inside the second node', '02 00 04 0A 00 04', 20, 6),
+    # 21 "fifth byte has its high bit, or a later last byte is 0", "its first byte"
+    unpack_refused('count in two bytes, the last 0', '81 00', 21, 0),
+    unpack_refused('count in five bytes, the last 0', '81 80 80 80 00', 21, 0),
+    unpack_refused('count whose fifth byte has its high bit', '81 80 80 80 80', 21, 0),
+    unpack_refused('count of six bytes', '81 80 80 80 80 01', 21, 0),
+    unpack_refused('operation with a last byte of 0', '01 80 00 04 0A', 21, 1),
+    unpack_refused('word with a last byte of 0', '01 00 84 00 0A', 21, 2),
+    unpack_refused('last word with a last byte of 0', '01 00 04 8A 00', 21, 3),
+    unpack_refused('last word with a third byte of 0', '01 00 04 D8 84 00', 21, 3),
+    unpack_refused('last word whose fifth byte has its high bit', '01 00 04 FF FF FF FF FF', 21, 3),
+    unpack_refused('last word of six bytes', '01 00 04 80 80 80 80 80 01', 21, 3),
+    # 22 "bytes left over", "first of them"
+    unpack_refused('one byte left over', '01 00 04 0A 00', 22, 4),
+    unpack_refused('three bytes left over', '01 00 04 0A FF FF FF', 22, 4),
+    unpack_refused('a whole node left over', '01 00 04 0A 00 04 0A', 22, 4),
+    unpack_refused('one byte left over after two nodes', '02 00 04 0A 00 04 D8 04 15', 22, 8),
+    # 23 "count not 1..256", place 0
+    unpack_refused('count 0', '00', 23, 0),
+    unpack_refused('count 257', '81 02', 23, 0),
+    unpack_refused('count 2^35 − 1', 'FF FF FF FF 7F', 23, 0),
+    unpack_refused('count 256 is one', '80 02', 20, 2, room=4352),
+    # 24 "operation not 0..20", "its byte"
+    unpack_refused('operation 21', '01 15', 24, 1),
+    unpack_refused('operation 127', '01 7F 00 00', 24, 1),
+    unpack_refused('operation 149 in two bytes', '01 95 01', 24, 1),
+    unpack_refused('operation 2^35 − 1', '01 FF FF FF FF 7F', 24, 1),
+    unpack_refused('operation 21 of the second node', '02 00 04 D8 04 15', 24, 5),
+]
+BYTE_ORDER = [
+    # "Unpacking: count (20, 21, 23), 14 for the table's room, numbers in byte order, 22 last."
+    unpack_refused('20 of the count before 14', '', 20, 0, room=0),
+    unpack_refused('20 inside the count before 14', '82', 20, 0, room=0),
+    unpack_refused('21 of the count before 14', '81 00', 21, 0, room=0),
+    unpack_refused('21 of the count before 23', '80 00', 21, 0),
+    unpack_refused('23 before 14, count 0', '00', 23, 0, room=0),
+    unpack_refused('23 before 14, count 257', '81 02', 23, 0, room=4352),
+    unpack_refused('23 before 20', '81 02 00', 23, 0),
+    unpack_refused('23 before 21', '00 80 00', 23, 0),
+    unpack_refused('23 before 22', '00 00', 23, 0),
+    unpack_refused('23 before 24', '00 15', 23, 0),
+    unpack_refused('14 before 20', '01', 14, 0, room=16),
+    unpack_refused('14 before 20 of a late number', '02 00 04 0A', 14, 0, room=33),
+    unpack_refused('14 before 21', '01 80 00', 14, 0, room=16),
+    unpack_refused('14 before 22', '01 00 04 0A 00', 14, 0, room=16),
+    unpack_refused('14 before 24', '01 15', 14, 0, room=16),
+    unpack_refused('14 of 256 nodes before 20', '80 02', 14, 0, room=4351),
+    unpack_refused('21 before 20 in one number', '01 00 04 80 80 80 80 80', 21, 3),
+    unpack_refused('21 before 20 of a later number', '01 00 84 00', 21, 2),
+    unpack_refused('21 of an operation before 24', '01 95 00', 21, 1),
+    unpack_refused('20 of an operation before 24', '01 95', 20, 1),
+    unpack_refused('21 before 24 of a later node', '02 00 84 00 0A 15', 21, 2),
+    unpack_refused('21 before 22', '01 00 84 00 0A 00', 21, 2),
+    unpack_refused('24 before 20', '02 15', 24, 1),
+    unpack_refused('24 before 21 of the next number', '01 15 80 00', 24, 1),
+    unpack_refused('24 before 20 of the next number', '01 15 80', 24, 1),
+    unpack_refused('24 before 22', '01 15 00 00 00', 24, 1),
+]
+
+# ---------------------------------------------------- unpack and check in one
+
+GREATEST = bytes.fromhex('80 02') + bytes.fromhex('06' + 'FF FF FF FF 7F' * 9) * 256
+ONE_CALL = [
+    # "the answer is the node count or, refused, 65536 times the number plus the place"
+    in_one_call('one CONST', bytes.fromhex('01 00 04 0A'), 1),
+    in_one_call('256 CONSTs', bytes.fromhex('80 02' + '00 04 0A' * 256), 256),
+    *(in_one_call(f'in one call: {case.name}', case.source, code(*case.answer[:2]))
+      for case in BYTES_REFUSED),
+    # "256 nodes take at most 11778": each word −2^34, so node 0 has a negative source
+    in_one_call('11778 bytes', GREATEST, code(4, 0)),
+    in_one_call('11778 bytes and one', GREATEST + b'\0', code(22, 11778)),
+    in_one_call('11778 bytes but one', GREATEST[:-1], code(20, 11773)),
+    # "all nodes together over 4194304 elements"
+    in_one_call('256 nodes of 1048576', pack(large((LARGE,)) + move(FLIP, 0, (1,)) * 255), code(12, 0)),
+    # unpacking comes before the check: type −5 in node 0 is 5
+    in_one_call('20 before 5', bytes.fromhex('02 00 09 0A'), code(20, 4)),
+    in_one_call('21 before 5', bytes.fromhex('02 00 09 0A 80 00'), code(21, 4)),
+    in_one_call('22 before 5', bytes.fromhex('01 00 09 0A 00'), code(22, 4)),
+    in_one_call('24 before 5', bytes.fromhex('02 00 09 0A 15'), code(24, 4)),
+    in_one_call('5 alone', bytes.fromhex('01 00 09 0A'), code(5, 0)),
+    # "The program and the C call work on 256 node records at most.": the last of 256 nodes as the place
+    *(in_one_call(f'{number} at the last of 256 nodes', pack(GROUND + const(I16, 5) * 252 + BROKEN[number]),
+                  code(number, 255))
+      for number in range(4, 12)),
+]
+
+
+def packable(table):
+    """Whether a packed plan can hold the table: operations known, unused words zero, words in five bytes."""
+    nodes = [table[k:k + 17] for k in range(0, len(table), 17)]
+    return 1 <= len(nodes) <= 256 and len(table) % 17 == 0 and all(
+        0 <= words[0] <= 20 and not model.unused_word_set(model.Node(words, [], 0))
+        and all(-2 ** 34 <= word < 2 ** 34 for word in words) for words in nodes)
+
+
+def packed_too(cases):
+    """The packable plans of the checks by unpack and check in one call; room plays no part there."""
+    for case in cases:
+        if packable(case.source) and case.answer[0] != 14:
+            number, place, _ = case.answer
+            answer = code(number, place) if number else len(case.source) // 17
+            yield in_one_call(f'packed: {case.name}', pack(case.source), answer)
+
+
+CASES = [*UNPACKED, *BYTES_REFUSED, *BYTE_ORDER, *CHECKS, *ONE_CALL, *packed_too(CHECKS)]
+
+# ------------------------------------------------------------------ the files
+
+
+def frame(case):
+    answer = struct.pack('<Q', case.answer) if case.buffer is None else struct.pack('<3Q', *case.answer)
+    source = case.source
+    if case.call == 'check':
+        source = struct.pack(f'<{len(source)}q', *source)
+    if case.buffer is not None:
+        source = struct.pack('<H', len(case.buffer)) + source
+        answer += struct.pack(f'<{len(case.buffer)}q', *case.buffer)
+    return struct.pack('<BHH', KINDS[case.call], len(source), len(answer)) + source + answer
+
+
+def of_model(case):
+    """The case with the model's answer and buffer."""
+    buffer = None if case.buffer is None else fresh_words(len(case.buffer))
+    arguments = (case.source,) if buffer is None else (case.source, buffer)
+    answer = getattr(model, case.call)(*arguments)
+    return case._replace(answer=answer if buffer is None else tuple(answer), buffer=buffer)
+
+
+def problems():
+    """What is wrong with the cases themselves."""
+    for case in CASES:
+        other = of_model(case)
+        if other != case:
+            words = 'the same words' if other.buffer == case.buffer else 'other words'
+            yield f'{case.call}, {case.name}: the model answers {other.answer}, not {case.answer}; {words}'
+    numbers = {case.answer[0] for case in CASES if case.buffer is not None}
+    missing = {0, *range(1, 13), 14, *range(20, 25)} - numbers
+    if missing:
+        yield f'no case of {sorted(missing)}'
+    every = {(a, b) for a in range(2, 12) for b in range(a + 1, 12)}
+    if every != PAIRS.keys() | NEVER_TOGETHER or PAIRS.keys() & NEVER_TOGETHER:
+        yield f'pairs of rules: {sorted(every ^ (PAIRS.keys() | NEVER_TOGETHER))}'
+    if sum(map(len, map(frame, CASES))) > MOST_FRAME_BYTES:
+        yield 'more bytes than the program reads'
+
+
+def output(program, data):
+    return subprocess.run([program], input=data, capture_output=True, check=False).stdout.decode()
+
+
+def spoilt(program):
+    """Complaints about a program that lets a spoilt frame pass."""
+    for index, case in enumerate(CASES):
+        data = frame(case)
+        words = 1 if case.buffer is None else 3 + len(case.buffer)
+        ends = [len(data) - 8 * k - 1 for k in {0, words // 2, words - 3, words - 2, words - 1} if 0 <= k]
+        for at in (0, *ends):
+            other = bytearray(data)
+            other[at] ^= 7 if at == 0 else 1
+            if not output(program, bytes(other)).endswith('\n0 passed, 1 failed\n'):
+                yield f'case {index} with byte {at} spoilt passes'
+    data = frame(CASES[0]) * 2
+    for cut in range(1, len(data)):
+        whole = cut // (len(data) // 2)
+        expected = f'case {whole}: cut short\n' if cut % (len(data) // 2) else ''
+        expected += f'{whole} passed, {int(bool(expected))} failed\n'
+        if output(program, data[:cut]) != expected:
+            yield f'frames cut at {cut}: {output(program, data[:cut])!r}'
+
+
+def complain(lines):
+    lines = list(lines)
+    for line in lines:
+        print(line)
+    if lines:
+        sys.exit(1)
+
+
+def main(arguments):
+    complain(problems())
+    files = {FRAMES: b''.join(map(frame, CASES)), OUTPUT: f'{len(CASES)} passed, 0 failed\n'.encode()}
+    if arguments == ['--list']:
+        for index, case in enumerate(CASES):
+            print(index, case.call, case.name, case.answer, sep='\t')
+    elif arguments == ['--check']:
+        complain(f'{path} is not what vectors.py writes' for path, data in files.items()
+                 if not os.path.exists(path) or open(path, 'rb').read() != data)
+    elif len(arguments) == 2 and arguments[0] == '--spoilt':
+        complain(spoilt(arguments[1]))
+    elif arguments:
+        sys.exit(__doc__)
+    else:
+        for path, data in files.items():
+            with open(path, 'wb') as file:
+                file.write(data)
+
+
+if __name__ == '__main__':
+    main(sys.argv[1:])
