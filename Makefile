@@ -1,4 +1,4 @@
-# make        builds the library into build/: the archive liblupetzarin.a and the shared object liblupetzarin.so
+# make        builds into build/: the archive liblupetzarin.a, the shared object liblupetzarin.so and the program list
 # make test   proves every crate, then runs the tests outside Rattle; its last line is 'N passed, 0 failed'
 # make linked a C program over the header and the archive; its last line is 'N passed, 0 failed'
 # make demo   the main job on example data
@@ -11,10 +11,11 @@ CFLAGS = -std=c11 -Wall -Wextra
 HEADER = include/lupetzarin.h
 ARCHIVE = build/liblupetzarin.a
 SHARED = build/liblupetzarin.so
+LIST = build/list
 # Directories too: their times change where a file comes or goes.
 SOURCES = $(shell find crates) crates.txt TOOLCHAIN
 
-all: $(ARCHIVE) $(SHARED)
+all: $(ARCHIVE) $(SHARED) $(LIST)
 
 $(ARCHIVE): $(SOURCES)
 	rt staticlib lupetzarin
@@ -23,6 +24,11 @@ $(ARCHIVE): $(SOURCES)
 
 $(SHARED): $(ARCHIVE)
 	$(CC) -shared -o $@ -Wl,--whole-archive $(ARCHIVE) -Wl,--no-whole-archive
+
+$(LIST): $(SOURCES)
+	rt check list
+	mkdir -p build
+	cp target/bin/list $@
 
 build/linked: tests/boundary/linked.c $(HEADER) $(ARCHIVE)
 	$(CC) $(CFLAGS) -Werror -Iinclude -o $@ tests/boundary/linked.c $(ARCHIVE)

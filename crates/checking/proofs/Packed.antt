@@ -22,7 +22,7 @@ use Rattle.checking.proofs.Ending.{counted}
 
 -- the outcome behind the reader's answer
 module _ {r : Plan} where
-  stop-is : (o : Outcome Unpacked) {n p : ℕ} → r ≡ planOf o → r ≡ Stop n p → o ≡ refuse n p
+  pub stop-is : (o : Outcome Unpacked) {n p : ℕ} → r ≡ planOf o → r ≡ Stop n p → o ≡ refuse n p
   unfolding planOf
   stop-is (refused s) {n} {p} q e = let a : s .number ≡ n = cc in let b : s .place ≡ p = cc in rw (← a, ← b)
   stop-is (accepted u) q e = let z : _≡_ {A = ℕ} 0 1 = cc in absurd (omega arith)

@@ -16,11 +16,11 @@ use Rattle.codec.specs.Plans.{Unpacked}
 use Rattle.codec.specs.Steps.{stepOf, Stands, Wrote}
 
 -- values after values, and values over one that was written before
-sets-append : (xs ys l : List ℤ) (i : ℕ) → sets (sets l i xs) (i + length xs) ys ≡ sets l i (xs ++ ys)
+sets-append : {A : Type 0} (xs ys l : List A) (i : ℕ) → sets (sets l i xs) (i + length xs) ys ≡ sets l i (xs ++ ys)
 sets-append [] ys l i = rw add-zero
 sets-append (x ∷ xs) ys l i = rw (add-suc, ← suc-add) (sets-append xs ys (set l i x) (suc i))
 
-pub sets-more : (l : List ℤ) {mid after : List ℤ} (i : ℕ) {place : ℕ} (xs ys : List ℤ) → mid ≡ sets l i xs → place ≡ i + length xs → after ≡ sets mid place ys → after ≡ sets l i (xs ++ ys)
+pub sets-more : {A : Type 0} (l : List A) {mid after : List A} (i : ℕ) {place : ℕ} (xs ys : List A) → mid ≡ sets l i xs → place ≡ i + length xs → after ≡ sets mid place ys → after ≡ sets l i (xs ++ ys)
 sets-more l i xs ys e q h = h ∙ rw (e, q) (sets-append xs ys l i)
 
 pub sets-over : (l : List ℤ) (i : ℕ) (a : ℤ) (vs : List ℤ) → 0 < length vs → sets (set l i a) i vs ≡ sets l i vs

@@ -1,0 +1,5 @@
+pub mod Pieces
+pub mod Numbers
+pub mod Shapes
+pub mod Nodes
+pub mod Plans
