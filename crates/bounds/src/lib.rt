@@ -17,14 +17,14 @@ pub struct Bounds {
 }
 
 // The smaller of two.
-fn least(a: i64, b: i64) -> i64
+pub fn least(a: i64, b: i64) -> i64
     ensures { λ r. ⌜ r ≡ minZ a b ⌝ }
 {
     if b < a { b } else { a }
 }
 
 // The larger of two.
-fn greatest(a: i64, b: i64) -> i64
+pub fn greatest(a: i64, b: i64) -> i64
     ensures { λ r. ⌜ r ≡ maxZ a b ⌝ }
 {
     if a < b { b } else { a }
@@ -68,14 +68,14 @@ pub fn floor_div(a: i64, b: i64) -> i64
 
 // What the floor leaves of a.
 pub fn floor_mod(a: i64, b: i64) -> i64
-    requires { ⌜ (Small a) × (Small b) × (b ≡ pos 0 → ⊥) ⌝ }
+    requires { ⌜ (Small a) × (Small b) ⌝ }
     ensures { λ r. ⌜ r ≡ floorMod a b ⌝ }
 {
-    a - b * floor_div(a, b)
+    a - b * quotient(a, b)
 }
 
 // The floor of a corner. An interval with 0 as an end is no divisor's; the definition's value at 0 stands for it.
-fn quotient(a: i64, b: i64) -> i64
+pub fn quotient(a: i64, b: i64) -> i64
     requires { ⌜ (Small a) × (Small b) ⌝ }
     ensures { λ r. ⌜ r ≡ floorDiv a b ⌝ }
 {

@@ -5,3 +5,6 @@ pub mod Elements
 pub mod Lookups
 pub mod Refusals
 pub mod Packed
+pub mod Buffers
+pub mod Demands
+pub mod Premises

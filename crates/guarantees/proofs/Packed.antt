@@ -66,10 +66,10 @@ unfolding nodeRules
 nodes-numbered t n ds = omega arith
 
 -- "1 to 256 nodes"
-abbrev Several : ℕ → Type 0
+abbrev pub Several : ℕ → Type 0
 Several n = (1 ≤ n) × (n ≤ 256)
 
-few-nodes : (t : List ℤ) → lengthRight t ≡ true → Several (nodeCount t)
+pub few-nodes : (t : List ℤ) → lengthRight t ≡ true → Several (nodeCount t)
 unfolding lengthRight
 few-nodes t e =
     let b = and-true (leb 1 (nodeCount t)) (leb (nodeCount t) 256) (and-true (eqb (length t % 17) 0) _ e .1) in

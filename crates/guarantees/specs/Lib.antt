@@ -6,3 +6,4 @@ pub mod Elements
 pub mod Lookups
 pub mod Refusals
 pub mod Packed
+pub mod Demand3

@@ -77,7 +77,7 @@ no-permutation rank a b c d h =
 -- ---- the words of a row that passes
 
 -- what is asked of word k
-row-word : (p : ℕ → Bool) (rank : ℕ) (row : List ℕ) → rowOf p rank row ≡ true → (k : ℕ) → k < 4
+pub row-word : (p : ℕ → Bool) (rank : ℕ) (row : List ℕ) → rowOf p rank row ≡ true → (k : ℕ) → k < 4
     → cond (ltb k rank) (p (wordOf row k)) (eqb (wordOf row k) 0) ≡ true
 unfolding rowOf
 row-word p rank row e = all-below 4 (λ (k : ℕ). cond (ltb k rank) (p (wordOf row k)) (eqb (wordOf row k) 0)) e

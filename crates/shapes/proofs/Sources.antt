@@ -90,7 +90,7 @@ flip-below s flags e h = ravel-lt s _ below
         let c : coord s e k < extent s k = coord-lt s e h k q in
         cond-both (λ (i : ℕ). i < extent s k) (flagged flags k) _ _ (λ r. omega arith) (λ r. c)
 
-pad-below : (s r o : List ℕ) (e : ℕ) → inSource s r o e ≡ true → ravel s (λ (k : ℕ). coord r e k - wordOf o k) < count s
+pub pad-below : (s r o : List ℕ) (e : ℕ) → inSource s r o e ≡ true → ravel s (λ (k : ℕ). coord r e k - wordOf o k) < count s
 unfolding inSource
 pad-below s r o e f = ravel-lt s _ below
   where
@@ -112,7 +112,7 @@ shrink-below s r o e l f h = ravel-lt s _ below
         let c : coord r e k < extent r k = coord-lt r e h k (omega arith) in
         omega arith
 
-expand-spreads : (s r : List ℕ) → sameRank s r (λ (k : ℕ). eqb (extent s k) 1 || eqb (extent s k) (extent r k)) ≡ true → Spreads s r
+pub expand-spreads : (s r : List ℕ) → sameRank s r (λ (k : ℕ). eqb (extent s k) 1 || eqb (extent s k) (extent r k)) ≡ true → Spreads s r
 unfolding sameRank
 expand-spreads s r f =
     let both = and-true (eqb (length s) (length r)) _ f in

@@ -1,17 +1,17 @@
-use mathlib.Core.Path.{_≡_, sym, ap, _∙_}
-use borrow.Author.Needs.{needs, sfits-of}
-use lib.IntN.{ℤ, pos, _-ℤ_, _*ℤ_}
+use mathlib.Core.Path.{_≡_, _∙_}
+use borrow.Author.Needs.{sfits-of}
+use lib.IntN.{ℤ, _-ℤ_, _*ℤ_}
 use mir.Syntax.{w64}
 use mir.Val.{SFits}
 use Rattle.laws.proofs.Absolute.{floor-small, mul-small}
 use Rattle.laws.proofs.Machine.{Small, R, R-is, arithM}
 use Rattle.laws.proofs.Parts.{diff-parts}
-use Rattle.laws.specs.Integers.{floorDiv, floorMod, Within}
+use Rattle.laws.specs.Integers.{floorDiv, floorMod}
 use Rattle.bounds.proofs.floor_mod.Statement.{statement}
 use Rattle.bounds.proofs.floor_mod.Tie as tie
 
-floor-div-requires : tie.Need-floor-div-requires
-floor-div-requires c κs = rw (R-is (c .fits .a), R-is (c .fits .b)) (c .pre)
+quotient-requires : tie.Need-quotient-requires
+quotient-requires c κs = rw (R-is (c .fits .a), R-is (c .fits .b)) (c .pre)
 
 -- what the two operations ask, and give, at the numbers themselves
 module _ {a b q : ℤ} (fa : SFits w64 a) (fb : SFits w64 b) (fq : SFits w64 q) (sa : Small a) (sb : Small b) (e : q ≡ floorDiv (R a) (R b)) where
@@ -41,13 +41,13 @@ module _ {a b q : ℤ} (fa : SFits w64 a) (fb : SFits w64 b) (fq : SFits w64 q) 
   result = R-is sub′ ∙ rw (R-is fa, mul-is, is)
 
 mul-result : tie.Need-mul-result
-mul-result c = let s = c .before in mul′ (s .fits .a) (s .fits .b) (sfits-of (c .floor-div .ok)) (s .pre .0) (s .pre .1) (c .floor-div .ensures)
+mul-result c = let s = c .before in mul′ (s .fits .a) (s .fits .b) (sfits-of (c .quotient .ok)) (s .pre .0) (s .pre .1) (c .quotient .ensures)
 
 sub-result : tie.Need-sub-result
-sub-result c = let s = c .before in sub′ (s .fits .a) (s .fits .b) (sfits-of (c .floor-div .ok)) (s .pre .0) (s .pre .1) (c .floor-div .ensures)
+sub-result c = let s = c .before in sub′ (s .fits .a) (s .fits .b) (sfits-of (c .quotient .ok)) (s .pre .0) (s .pre .1) (c .quotient .ensures)
 
 returns : tie.Need-returns
-returns c = let s = c .before in result (s .fits .a) (s .fits .b) (sfits-of (c .floor-div .ok)) (s .pre .0) (s .pre .1) (c .floor-div .ensures)
+returns c = let s = c .before in result (s .fits .a) (s .fits .b) (sfits-of (c .quotient .ok)) (s .pre .0) (s .pre .1) (c .quotient .ensures)
 
 pub floor-mod-spec : {M : Type 1} → statement M
-floor-mod-spec = tie.close (tie.spec floor-div-requires mul-result sub-result returns)
+floor-mod-spec = tie.close (tie.spec quotient-requires mul-result sub-result returns)

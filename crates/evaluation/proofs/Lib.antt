@@ -1,0 +1,6 @@
+pub mod Walked
+pub mod Laying
+pub mod Leaves
+pub mod Mixed
+pub mod Gathered
+pub mod Groups

@@ -1,0 +1,11 @@
+pub mod Steps
+pub mod RowPlaces
+pub mod Fronts
+pub mod Axiswise
+pub mod Walking
+pub mod MergingAxes
+pub mod Moving
+pub mod Padding
+pub mod Gathering
+pub mod Weights
+pub mod Permuting

@@ -1,0 +1,4 @@
+pub mod Views
+pub mod Strides
+pub mod Merging
+pub mod Walks
