@@ -14,7 +14,8 @@ use Rattle.plan.specs.declared.Row.{Row}
 use Rattle.views.specs.declared.View.{View}
 use Rattle.views.specs.Views.{step, rowsOf, rowPlace, place, reach}
 use Rattle.views.proofs.RowPlaces.{place-row, cell-below}
-use Rattle.elementwise.specs.Mixing.{mixFlag, three, SmallAlong, SmallBefore}
+use Rattle.elementwise.specs.Mixing.{mixFlag, three, SmallAlong}
+use Rattle.views.specs.Numbers.{SmallBefore}
 
 -- m has what l has before place s
 pub record Kept {A : Type 0} (d : A) (l m : List A) (s : ℕ) : Type 0 where

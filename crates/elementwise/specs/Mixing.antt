@@ -35,9 +35,6 @@ mixedValues op vs fs g a b d start = store vs start (cellsOf g) (λ (j : ℕ). t
 abbrev pub mixedFlags : ℕ → List ℤ → List ℕ → Row → View → View → View → ℕ → List ℕ
 mixedFlags op vs fs g a b d start = store fs start (cellsOf g) (λ (j : ℕ). three (mixFlag op) vs fs (place g a j) (place g b j) (place g d j))
 
--- the numbers along a row, and before a place, are of 32 bits
+-- the numbers along a row are of 32 bits
 abbrev pub SmallAlong : List ℤ → ℕ → ℕ → Stride → Type 0
 SmallAlong vs n p s = (j : ℕ) → j < n → Small (getD vs (p + step n s j) (pos 0))
-
-abbrev pub SmallBefore : List ℤ → ℕ → Type 0
-SmallBefore vs n = (p : ℕ) → p < n → Small (getD vs p (pos 0))

@@ -11,7 +11,7 @@ use Rattle.plan.specs.Operations.{PARAM, operationCount, uses}
 use Rattle.shapes.specs.Rules.{elementLimit, extent, shapesAgree, resultExtents}
 use Rattle.verifier.specs.Rules.{rowsRight}
 use Rattle.cells.specs.Nodes.{Operands}
-use Rattle.elementwise.specs.Mixing.{SmallBefore}
+use Rattle.views.specs.Numbers.{SmallBefore}
 use Rattle.evaluation.specs.Standing.{Source, Given, Room}
 
 -- extents from 1 on, at most four, of at most 1048576 elements

@@ -16,7 +16,8 @@ use Rattle.views.specs.Views.{step, span, rowsOf, cellsOf, rowPlace, place, row
 use Rattle.views.proofs.RowPlaces.{place-row, row-below, cell-below}
 use Rattle.views.proofs.Steps.{step-le, place-le}
 use Rattle.reducing.specs.Folding.{combineOf, first, reducedFlag, reducedFlags, reducedValues}
-use Rattle.reducing.specs.Gathering.{taken, runs, SmallBefore, Room}
+use Rattle.reducing.specs.Gathering.{taken, runs, Room}
+use Rattle.views.specs.Numbers.{SmallBefore}
 use Rattle.reducing.proofs.Folds.{rows-turn, taken-after, blocks-turn}
 use Rattle.reducing.proofs.Rooms.{small-kept, begin-room}
 

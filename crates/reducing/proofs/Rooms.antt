@@ -25,7 +25,8 @@ use Rattle.views.specs.Views.{step, span}
 use Rattle.views.proofs.Steps.{step-le}
 use Rattle.views.proofs.RowPlaces.{block-fits}
 use Rattle.reducing.specs.Folding.{foldFrom, combineOf, first}
-use Rattle.reducing.specs.Gathering.{taken, SmallBefore, Room}
+use Rattle.reducing.specs.Gathering.{taken, Room}
+use Rattle.views.specs.Numbers.{SmallBefore}
 use Rattle.reducing.proofs.Folds.{fold-step}
 
 -- ---- absolute values

@@ -4,7 +4,6 @@ use mathlib.Core.List.{List}
 use lib.IntN.{ℤ, pos, natAbs}
 use lib.ListN.{getD}
 use Rattle.laws.specs.Store.{store}
-use Rattle.laws.proofs.Machine.{Small}
 use Rattle.views.specs.declared.Stride.{Stride}
 use Rattle.views.specs.Views.{step}
 use Rattle.reducing.specs.Folding.{foldFrom}
@@ -16,10 +15,6 @@ taken f d l to n from m = store l to n (λ (c : ℕ). foldFrom f (getD l (to + c
 -- a row of n cells, each of which takes in a run of m
 abbrev pub runs : ℕ → ℕ → Stride → ℕ → Stride → ℕ → ℕ → ℕ
 runs p n a m b c i = p + step n a c + step m b i
-
--- the numbers before a place are of 32 bits
-abbrev pub SmallBefore : List ℤ → ℕ → Type 0
-SmallBefore vs n = (p : ℕ) → p < n → Small (getD vs p (pos 0))
 
 -- each of the n numbers from `to` on can take in m such numbers
 abbrev pub Room : List ℤ → ℕ → ℕ → ℕ → Type 0
