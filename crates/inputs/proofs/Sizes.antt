@@ -114,7 +114,7 @@ module _ (ds : List Derived) where
   unfolding totalOf sum
   total-none = refl
 
-  total-next : (i : ℕ) → i < length ds → totalOf (take i ds) + countOf (getD ds i noSource) ≡ totalOf (take (i + 1) ds)
+  pub total-next : (i : ℕ) → i < length ds → totalOf (take i ds) + countOf (getD ds i noSource) ≡ totalOf (take (i + 1) ds)
   unfolding totalOf sum
   total-next i l =
       rw (add-one, take-suc ds i noSource l, map-append, sum-append) (omega arith)

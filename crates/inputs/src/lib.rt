@@ -24,7 +24,7 @@ pub struct Finding {
 }
 
 // The elements of a node that are input: all of a PARAM's, none of another's.
-fn input_size(op: usize, r: Record) -> usize
+pub fn input_size(op: usize, r: Record) -> usize
     requires { ⌜ count (shown (r .extents)) ≤ 1048576 ⌝ }
     ensures { λ n. ⌜ n ≡ cond (eqb op 1) (count (shown (r .extents))) 0 ⌝ }
 {

@@ -2,6 +2,7 @@
 ghost use mathlib.Core.Path.{_≡_};
 ghost use lib.ListN.{length};
 ghost use Rattle.codec.specs.Plans.{unpack, unpackAnswer, tableAfter};
+ghost use Rattle.runner.specs.Run.{run, runAnswer, valuesAfter, flagsAfter};
 ghost use Rattle.verifier.specs.Check.{check, checkAnswer, derivedAfter, unpackCheck, codeOf};
 
 // A packed plan into a table, which stays as it was where the plan is refused.
@@ -26,4 +27,19 @@ pub extern "C" fn lup_unpack_check(bytes: &[u8]) -> u64
     ensures { λ r. ⌜ r ≡ codeOf (unpackCheck (now (bytes .entry))) ⌝ }
 {
     checking::unpack_check(bytes)
+}
+
+// The run of a plan on the input of its PARAMs: every element of every node into the two result buffers, which stay as they were where it is
+// refused.
+#[no_mangle]
+pub extern "C" fn lup_run(
+    table: &[i64],
+    values: &[i64],
+    flags: &[u8],
+    out_values: &mut [i64],
+    out_flags: &mut [u8],
+) -> plan::Answer
+    ensures { λ r. ⌜ (r ≡ runAnswer (run (now (table .entry)) (now (values .entry)) (now (flags .entry)) (length (now («out_values» .entry))) (length (now («out_flags» .entry))))) × (now («out_values» .exit) ≡ valuesAfter (run (now (table .entry)) (now (values .entry)) (now (flags .entry)) (length (now («out_values» .entry))) (length (now («out_flags» .entry)))) (now («out_values» .entry))) × (now («out_flags» .exit) ≡ flagsAfter (run (now (table .entry)) (now (values .entry)) (now (flags .entry)) (length (now («out_values» .entry))) (length (now («out_flags» .entry)))) (now («out_flags» .entry))) ⌝ }
+{
+    running::run(table, values, flags, out_values, out_flags)
 }

@@ -1,0 +1,5 @@
+pub mod EndToEnd
+pub mod Plans
+pub mod Turns
+pub mod Gaps
+pub mod Endings

@@ -1,0 +1,153 @@
+// The run of a plan: every node's cells, end to end, into two result buffers.
+ghost use mathlib.Core.Path.{_≡_};
+ghost use mathlib.Core.Bool.{cond};
+ghost use mathlib.Core.List.{[]};
+ghost use Prim.Native.Nat.{_+_, _^_, _/_, _%_, _-_, _≤_, _<_};
+ghost use lib.Dec.{eqb};
+ghost use lib.ListN.{length, getD};
+ghost use Rattle.shapes.specs.Shown.{shown};
+ghost use Rattle.verifier.specs.Rules.{noSource};
+ghost use Rattle.verifier.specs.Check.{countOf, totalOf};
+ghost use Rattle.runner.specs.Inputs.{inputCells};
+ghost use Rattle.runner.specs.Run.{run, runAnswer, valuesAfter, flagsAfter, valueOf, flagOf};
+ghost use Rattle.inputs.specs.Nodes.{nodesOf};
+ghost use Rattle.inputs.specs.Scanning.{gapsFrom};
+ghost use Rattle.running.specs.Running.{laidTo, Checked, Fed, Places};
+use evaluation::Operand;
+use plan::NodeNumber;
+use verifier::Record;
+
+// Where the record of a source stands; 0 where it is no earlier node.
+fn source_place(s: NodeNumber, i: usize) -> usize
+    requires { ⌜ i < 256 ⌝ }
+    ensures { λ r. ⌜ (r < 256) × (s .0 < i → r ≡ s .0) ⌝ }
+{
+    let n = s.0;
+    if n < i { n } else { 0 }
+}
+
+// Source k, of record r, whose cells begin at `start`; no extents where the operation does not use it.
+fn operand(mask: usize, k: usize, r: Record, start: usize) -> Operand
+    requires { ⌜ k < 17 ⌝ }
+    ensures { λ o. ⌜ (shown (o .shape) ≡ cond (eqb (mask / 2 ^ k % 2) 1) (shown (r .extents)) []) × (o .base ≡ cond (eqb (mask / 2 ^ k % 2) 1) start 0) ⌝ }
+{
+    if plan::uses_word(mask, k) {
+        let e = r.extents;
+        return Operand {
+            shape: e,
+            base: start,
+        };
+    }
+    let none = verifier::blank();
+    let e = none.extents;
+    Operand { shape: e, base: 0 }
+}
+
+// The cells of all nodes in turn.
+fn run_nodes(
+    table: &[i64],
+    records: [Record; 256],
+    count: usize,
+    starts: [usize; 256],
+    given: &[i64],
+    known: &[u8],
+    values: &mut [i64],
+    flags: &mut [u8],
+)
+    requires { ⌜ Checked (now table) records count × Fed (now table) (nodesOf records count) (now given) (now known) × Places (nodesOf records count) starts (now values) (now flags) ⌝ }
+    ensures { λ _. ⌜ (now (values .exit) ≡ laidTo valueOf (now (table .entry)) (nodesOf records count) (inputCells (now (given .entry)) (now (known .entry))) count (now (values .entry))) × (now (flags .exit) ≡ laidTo flagOf (now (table .entry)) (nodesOf records count) (inputCells (now (given .entry)) (now (known .entry))) count (now (flags .entry))) ⌝ }
+{
+    let mut from = 0;
+    let mut i = 0;
+    while i < count {
+        let x = plan::node_at(table, i);
+        let mask = plan::used_mask(x.op);
+        let place1 = source_place(x.source1, i);
+        let place2 = source_place(x.source2, i);
+        let place3 = source_place(x.source3, i);
+        let a = operand(mask, 1, records[place1], starts[place1]);
+        let b = operand(mask, 2, records[place2], starts[place2]);
+        let d = operand(mask, 3, records[place3], starts[place3]);
+        let r = records[i];
+        let e = r.extents;
+        let start = starts[i];
+        evaluation::eval_node(x, e, a, b, d, given, known, from, values, flags, start);
+        from += inputs::input_size(x.op, r);
+        i += 1;
+    }
+}
+
+// The gaps of the last node.
+fn output_gaps(records: [Record; 256], count: usize, starts: [usize; 256], flags: &[u8]) -> usize
+    requires { ⌜ (0 < count) × (count ≤ 256) × (countOf (getD (nodesOf records count) (count - 1) noSource) ≤ 1048576) × (getD starts (count - 1) 0 + countOf (getD (nodesOf records count) (count - 1) noSource) ≤ length (now flags)) ⌝ }
+    ensures { λ r. ⌜ r ≡ gapsFrom (now (flags .entry)) (getD starts (count - 1) 0) (countOf (getD (nodesOf records count) (count - 1) noSource)) ⌝ }
+{
+    let last = count - 1;
+    let r = records[last];
+    let n = shaping::count(r.extents);
+    inputs::count_gaps(flags, starts[last], n)
+}
+
+// 13 to 16 and the run of a plan that the check has accepted, with `total` elements.
+fn run_accepted(
+    table: &[i64],
+    records: [Record; 256],
+    count: usize,
+    total: usize,
+    given: &[i64],
+    known: &[u8],
+    values: &mut [i64],
+    flags: &mut [u8],
+) -> plan::Answer
+    requires { ⌜ Checked (now table) records count × (total ≡ totalOf (nodesOf records count)) ⌝ }
+    ensures { λ r. ⌜ (r ≡ runAnswer (run (now (table .entry)) (now (given .entry)) (now (known .entry)) (length (now (values .entry))) (length (now (flags .entry))))) × (now (values .exit) ≡ valuesAfter (run (now (table .entry)) (now (given .entry)) (now (known .entry)) (length (now (values .entry))) (length (now (flags .entry)))) (now (values .entry))) × (now (flags .exit) ≡ flagsAfter (run (now (table .entry)) (now (given .entry)) (now (known .entry)) (length (now (values .entry))) (length (now (flags .entry)))) (now (flags .entry))) ⌝ }
+{
+    let size = inputs::input_total(table, records, count);
+    if given.len() != size {
+        return plan::refused(13, 0);
+    }
+    if known.len() != size {
+        return plan::refused(13, 0);
+    }
+    if values.len() < total {
+        return plan::refused(14, 0);
+    }
+    if flags.len() < total {
+        return plan::refused(14, 0);
+    }
+    let found = inputs::scan(table, records, count, given, known);
+    if found.number != 0 {
+        return plan::refused(found.number, found.place);
+    }
+    let starts = inputs::starts(records, count);
+    run_nodes(table, records, count, starts, given, known, values, flags);
+    let gaps = output_gaps(records, count, starts, flags);
+    plan::accepted(gaps as u64)
+}
+
+// The run of a plan on an input: its answer, and the cells of all nodes; where it is refused, both buffers stay as they were.
+pub fn run(
+    table: &[i64],
+    values: &[i64],
+    flags: &[u8],
+    out_values: &mut [i64],
+    out_flags: &mut [u8],
+) -> plan::Answer
+    ensures { λ r. ⌜ (r ≡ runAnswer (run (now (table .entry)) (now (values .entry)) (now (flags .entry)) (length (now («out_values» .entry))) (length (now («out_flags» .entry))))) × (now («out_values» .exit) ≡ valuesAfter (run (now (table .entry)) (now (values .entry)) (now (flags .entry)) (length (now («out_values» .entry))) (length (now («out_flags» .entry)))) (now («out_values» .entry))) × (now («out_flags» .exit) ≡ flagsAfter (run (now (table .entry)) (now (values .entry)) (now (flags .entry)) (length (now («out_values» .entry))) (length (now («out_flags» .entry)))) (now («out_flags» .entry))) ⌝ }
+{
+    let r = checking::verdict(table);
+    if r.number != 0 {
+        return plan::refused(r.number as u64, r.place as u64);
+    }
+    let records = r.records;
+    run_accepted(
+        table,
+        records,
+        r.count,
+        r.total,
+        values,
+        flags,
+        out_values,
+        out_flags,
+    )
+}
