@@ -12,7 +12,6 @@ use lib.Dec.{ltb}
 use lib.ListN.{length, getD, take, length-append, List·getD-append}
 use lib.Seq.{getD-append-add}
 use Rattle.laws.specs.Lists.{tab, concat}
-use Rattle.laws.specs.Numbering.{count}
 use Rattle.laws.specs.Store.{store}
 use Rattle.laws.proofs.Booleans.{bool-cases}
 use Rattle.laws.proofs.Lists.{length-tab, concat-append, take-whole}
@@ -22,7 +21,7 @@ use Rattle.plan.specs.Answers.{written}
 use Rattle.verifier.specs.Rules.{Derived, noSource}
 use Rattle.verifier.specs.Check.{countOf, totalOf}
 use Rattle.cells.specs.Cells.{Cell, gap, Field}
-use Rattle.cells.specs.Nodes.{Operands, evalCell}
+use Rattle.cells.specs.Nodes.{evalCell}
 use Rattle.cells.proofs.Nodes.{node-count, node-cell}
 use Rattle.runner.specs.Run.{operandsOf, nodeField, fieldsTo, allCells}
 use Rattle.inputs.proofs.Sizes.{total-none, total-next}
@@ -125,19 +124,18 @@ module _ (t : List ℤ) (ds : List Derived) (input : List Cell) where
     laid-length i e = ap length e ∙ length-store before 0 (totalOf (take i ds)) _
 
     -- one node more, its cells after those before it
-    pub laid-more : (m : List A) {end : List A} (i start : ℕ) (r : List ℕ) (o : Operands) → i < length ds → m ≡ laidTo f t ds input i before
-        → start ≡ totalOf (take i ds) → r ≡ getD ds i noSource .extents → o ≡ operandsOf t ds input i (fieldsTo t ds input i)
-        → end ≡ store m start (count r) (λ (e : ℕ). f (evalCell (nodeAt t i) r o (element e))) → end ≡ laidTo f t ds input (i + 1) before
-    laid-more m i start r o l e es er eo q =
+    pub laid-more : (m : List A) {end : List A} (i : ℕ) → i < length ds → m ≡ laidTo f t ds input i before
+        → end ≡ store m (totalOf (take i ds)) (countOf (getD ds i noSource)) (λ (e : ℕ). f (evalCell (nodeAt t i) (getD ds i noSource .extents) (operandsOf t ds input i (fieldsTo t ds input i)) (element e)))
+        → end ≡ laidTo f t ds input (i + 1) before
+    laid-more m i l e q =
         let n = countOf (getD ds i noSource) in
         let s = totalOf (take i ds) in
         let g : ℕ → A = λ (p : ℕ). f (getD (allCells (fieldsTo t ds input (suc i))) p gap) in
         let front : m ≡ store before 0 s g = e ∙ store-same before 0 s _ g (λ k h. ap f (sym (all-before i k l h))) in
-        let own : store m s n (λ (e : ℕ). f (evalCell (nodeAt t i) (getD ds i noSource .extents) (operandsOf t ds input i (fieldsTo t ds input i)) (element e))) ≡ store m s n (λ (e : ℕ). g (s + e)) = store-same m s n _ (λ (e : ℕ). g (s + e)) (λ k h. ap f (sym (all-own i k l ∙ cells-are i k h))) in
+        let own = store-same m s n _ (λ (e : ℕ). g (s + e)) (λ k h. ap f (sym (all-own i k l ∙ cells-are i k h))) in
         let next : s + n ≡ totalOf (take (suc i) ds) = rw add-one at (total-next ds i l) in
         let both : store (store before 0 s g) s n (λ (e : ℕ). g (s + e)) ≡ store before 0 (s + n) g = rw zero-add at (store-append before 0 s n g) in
-        rw (es, er, eo) at q
-        ∙ own ∙ ap (λ (b : List A). store b s n (λ (e : ℕ). g (s + e))) front ∙ both ∙ rw (add-one, next) refl
+        q ∙ own ∙ ap (λ (b : List A). store b s n (λ (e : ℕ). g (s + e))) front ∙ both ∙ rw (add-one, next) refl
 
     -- cell e of node j, read back
     pub laid-read : (m : List A) (d : A) (i j e : ℕ) → m ≡ laidTo f t ds input i before → i ≤ length ds → totalOf (take i ds) ≤ length before → j < i → e < countOf (getD ds j noSource)

@@ -32,7 +32,6 @@ use Rattle.cells.specs.Nodes.{Operands}
 use Rattle.runner.specs.Inputs.{inputStart, inputCell, inputCells}
 use Rattle.runner.specs.Run.{fieldOf, operandsOf, nodeField, fieldsTo, valueOf, flagOf}
 use Rattle.runner.proofs.Fields.{field-at}
-use Rattle.views.specs.Numbers.{SmallBefore}
 use Rattle.inputs.specs.Nodes.{nodesOf}
 use Rattle.evaluation.specs.Standing.{Source, Evaluates, Room, Given}
 use Rattle.evaluation.specs.Ready.{Proper, Right, Ready, Reads}
@@ -119,26 +118,64 @@ module _ (t : List ℤ) (records : List Record) (n : ℕ) (checked : Checked t r
   own-room : totalOf (take i (nodesOf records n)) + countOf (getD (nodesOf records n) i noSource) ≤ totalOf (nodesOf records n)
   own-room = total-whole nodes i (omega (arith, as-many t records n checked))
 
+  -- a source that it uses: its extents, and its cells end before its own begin
+  picked-extents : (k : ℕ) (s : NodeNumber) (extents : List ℕ) (base : ℕ) → Picks (nodesOf records n) i (nodeAt t i .op) k s extents base → uses (nodeAt t i .op) k ≡ true
+      → extents ≡ getD (nodesOf records n) (s .0) noSource .extents
+  picked-extents k s extents base p u = p .shape ∙ ap (λ (d : Derived). d .extents) (source-is nodes i op k s u (p .before u))
+
+  ends : (k : ℕ) (s : NodeNumber) (extents : List ℕ) (base : ℕ) → Picks (nodesOf records n) i (nodeAt t i .op) k s extents base → uses (nodeAt t i .op) k ≡ true
+      → base + count extents ≤ totalOf (take i (nodesOf records n))
+  ends k s extents base p u =
+      rw (p .begins u, picked-extents k s extents base p u) (total-more nodes (s .0) i (p .before u) (omega (arith, as-many t records n checked)))
+
   module _ (values : List ℤ) (flags : List ℕ) (fed : Fed t (nodesOf records n) values flags) (vs₀ : List ℤ) (fs₀ : List ℕ) (vs : List ℤ) (fs : List ℕ) (starts : List ℕ)
       (places : Places (nodesOf records n) starts vs₀ fs₀) (laid-values : vs ≡ laidTo valueOf t (nodesOf records n) (inputCells values flags) i vs₀) (laid-flags : fs ≡ laidTo flagOf t (nodesOf records n) (inputCells values flags) i fs₀) where
     abbrev input : List Cell
     input = inputCells values flags
 
-    small-before : SmallBefore vs (totalOf (take i (nodesOf records n)))
+    -- the numbers before its place
+    small-before : (p : ℕ) → p < totalOf (take i (nodesOf records n)) → Small (getD vs p (pos 0))
     small-before p h =
         let inside : 0 + totalOf (take i nodes) ≤ length vs₀ = omega (arith, own-room, places .value-room) in
         let here = store-hit vs₀ vs 0 (totalOf (take i nodes)) _ p (pos 0) laid-values h inside in
         subst Small (sym (rw zero-add at here)) (all-small t records n checked values flags fed i (omega arith) p)
 
+    -- its place is there
+    room : Room (getD (nodesOf records n) i noSource .extents) (totalOf (take i (nodesOf records n))) vs fs
+    room =
+        record {
+          some = some-element (getD nodes i noSource .extents) (proper-at t records n checked i l .positive);
+          values = rw (laid-length t nodes input valueOf vs₀ i laid-values) (omega (arith, own-room, places .value-room));
+          flags = rw (laid-length t nodes input flagOf fs₀ i laid-flags) (omega (arith, own-room, places .flag-room));
+        }
+
+    -- its source stands in the buffers, and its input is that of a PARAM
+    source-stands : (k : ℕ) (s : NodeNumber) (extents : List ℕ) (base : ℕ) → Picks (nodesOf records n) i (nodeAt t i .op) k s extents base → uses (nodeAt t i .op) k ≡ true
+        → Source vs fs base extents (fieldOf (fieldsTo t (nodesOf records n) (inputCells values flags) i) (nodeAt t i .op) k s)
+    unfolding fieldOf nodeField
+    source-stands k s extents base p u =
+        let few : i ≤ length nodes = omega (arith, as-many t records n checked) in
+        rw (u, field-at t nodes input i (s .0) (p .before u), picked-extents k s extents base p u, p .begins u)
+        (record {
+          shape = refl;
+          stands =
+              record {
+                values = λ e h. laid-read t nodes input valueOf vs₀ vs (pos 0) i (s .0) e laid-values few (omega (arith, own-room, places .value-room)) (p .before u) h;
+                flags = λ e h. laid-read t nodes input flagOf fs₀ fs 0 i (s .0) e laid-flags few (omega (arith, own-room, places .flag-room)) (p .before u) h;
+              };
+        })
+
+    given : nodeAt t i .op ≡ PARAM → Given values flags (inputStart t (nodesOf records n) i) (getD (nodesOf records n) i noSource .extents) (drop (inputStart t (nodesOf records n) i) (inputCells values flags))
+    unfolding inputCells
+    given q e h =
+        let inside : inputStart t nodes i + e < length values = omega (arith, fed .all-values, input-inside t records n checked values flags fed i l q) in
+        getD-drop (inputStart t nodes i) (inputCells values flags) e gap ∙ getD-tab (length values) (λ (p : ℕ). inputCell (getD values p (pos 0)) (getD flags p 0)) (inputStart t nodes i + e) gap inside
+
+    abbrev operands : Operands
+    operands = operandsOf t (nodesOf records n) (inputCells values flags) i (fieldsTo t (nodesOf records n) (inputCells values flags) i)
+
     module _ (pa pb pc : ℕ) (sa sb sc : List ℕ) (first-is : Picks (nodesOf records n) i (nodeAt t i .op) 1 (nodeAt t i .source1) sa pa)
         (second-is : Picks (nodesOf records n) i (nodeAt t i .op) 2 (nodeAt t i .source2) sb pb) (third-is : Picks (nodesOf records n) i (nodeAt t i .op) 3 (nodeAt t i .source3) sc pc) where
-      -- the cells of a source end before its own begin
-      ends : (k : ℕ) (s : NodeNumber) (extents : List ℕ) (base : ℕ) → Picks (nodesOf records n) i (nodeAt t i .op) k s extents base → uses (nodeAt t i .op) k ≡ true
-          → base + count extents ≤ totalOf (take i (nodesOf records n))
-      ends k s extents base p u =
-          let same : extents ≡ getD nodes (s .0) noSource .extents = p .shape ∙ ap (λ (d : Derived). d .extents) (source-is nodes i op k s u (p .before u)) in
-          rw (p .begins u, same) (total-more nodes (s .0) i (p .before u) (omega (arith, as-many t records n checked)))
-
       right : Right (nodeAt t i) sa sb sc (getD (nodesOf records n) i noSource .extents)
       right =
           rw (first-is .shape, second-is .shape, third-is .shape)
@@ -153,14 +190,6 @@ module _ (t : List ℤ) (records : List Record) (n : ℕ) (checked : Checked t r
             third = source-proper 3 (nodeAt t i .source3);
             whole = proper-at t records n checked i l;
           })
-
-      room : Room (getD (nodesOf records n) i noSource .extents) (totalOf (take i (nodesOf records n))) vs fs
-      room =
-          record {
-            some = some-element (getD nodes i noSource .extents) (proper-at t records n checked i l .positive);
-            values = rw (laid-length t nodes input valueOf vs₀ i laid-values) (omega (arith, own-room, places .value-room));
-            flags = rw (laid-length t nodes input flagOf fs₀ i laid-flags) (omega (arith, own-room, places .flag-room));
-          }
 
       -- what evaluation asks for
       pub ready : {x : Node} {r : List ℕ} {from start : ℕ} → x ≡ nodeAt t i → r ≡ getD (nodesOf records n) i noSource .extents → from ≡ inputStart t (nodesOf records n) i → start ≡ totalOf (take i (nodesOf records n))
@@ -177,32 +206,6 @@ module _ (t : List ℤ) (records : List Record) (n : ℕ) (checked : Checked t r
             values = λ p. rw (fed .all-values) (input-inside t records n checked values flags fed i l p);
             flags = λ p. rw (fed .all-flags) (input-inside t records n checked values flags fed i l p);
           })
-
-      -- what stands in the buffers
-      source-stands : (k : ℕ) (s : NodeNumber) (extents : List ℕ) (base : ℕ) → Picks (nodesOf records n) i (nodeAt t i .op) k s extents base → uses (nodeAt t i .op) k ≡ true
-          → Source vs fs base extents (fieldOf (fieldsTo t (nodesOf records n) (inputCells values flags) i) (nodeAt t i .op) k s)
-      unfolding fieldOf nodeField
-      source-stands k s extents base p u =
-          let same : extents ≡ getD nodes (s .0) noSource .extents = p .shape ∙ ap (λ (d : Derived). d .extents) (source-is nodes i op k s u (p .before u)) in
-          let few : i ≤ length nodes = omega (arith, as-many t records n checked) in
-          rw (u, field-at t nodes input i (s .0) (p .before u), same, p .begins u)
-          (record {
-            shape = refl;
-            stands =
-                record {
-                  values = λ e h. laid-read t nodes input valueOf vs₀ vs (pos 0) i (s .0) e laid-values few (omega (arith, own-room, places .value-room)) (p .before u) h;
-                  flags = λ e h. laid-read t nodes input flagOf fs₀ fs 0 i (s .0) e laid-flags few (omega (arith, own-room, places .flag-room)) (p .before u) h;
-                };
-          })
-
-      given : nodeAt t i .op ≡ PARAM → Given values flags (inputStart t (nodesOf records n) i) (getD (nodesOf records n) i noSource .extents) (drop (inputStart t (nodesOf records n) i) (inputCells values flags))
-      unfolding inputCells
-      given q e h =
-          let inside : inputStart t nodes i + e < length values = omega (arith, fed .all-values, input-inside t records n checked values flags fed i l q) in
-          getD-drop (inputStart t nodes i) (inputCells values flags) e gap ∙ getD-tab (length values) (λ (p : ℕ). inputCell (getD values p (pos 0)) (getD flags p 0)) (inputStart t nodes i + e) gap inside
-
-      abbrev operands : Operands
-      operands = operandsOf t (nodesOf records n) (inputCells values flags) i (fieldsTo t (nodesOf records n) (inputCells values flags) i)
 
       reads : Reads (nodeAt t i) sa sb sc (getD (nodesOf records n) i noSource .extents) pa pb pc (inputStart t (nodesOf records n) i) values flags vs fs operands
       unfolding operandsOf
@@ -221,6 +224,6 @@ module _ (t : List ℤ) (records : List Record) (n : ℕ) (checked : Checked t r
       one-more {x} {r} {from} {start} {vs′} {fs′} q er ef es evaluates =
           let done : Evaluates (nodeAt t i) (getD nodes i noSource .extents) operands vs fs (totalOf (take i nodes)) vs′ fs′ = (rw (q, er, ef, es) at evaluates) operands reads in
           let few : i < length nodes = omega (arith, as-many t records n checked) in (
-            laid-more t nodes input valueOf vs₀ vs i _ _ operands few laid-values refl refl refl (done .values),
-            laid-more t nodes input flagOf fs₀ fs i _ _ operands few laid-flags refl refl refl (done .flags),
+            laid-more t nodes input valueOf vs₀ vs i few laid-values (done .values),
+            laid-more t nodes input flagOf fs₀ fs i few laid-flags (done .flags),
           )

@@ -14,17 +14,7 @@ ghost use Rattle.inputs.specs.Nodes.{nodesOf};
 ghost use Rattle.inputs.specs.Scanning.{gapsFrom};
 ghost use Rattle.running.specs.Running.{laidTo, Checked, Fed, Places};
 use evaluation::Operand;
-use plan::NodeNumber;
 use verifier::Record;
-
-// Where the record of a source stands; 0 where it is no earlier node.
-fn source_place(s: NodeNumber, i: usize) -> usize
-    requires { ⌜ i < 256 ⌝ }
-    ensures { λ r. ⌜ (r < 256) × (s .0 < i → r ≡ s .0) ⌝ }
-{
-    let n = s.0;
-    if n < i { n } else { 0 }
-}
 
 // Source k, of record r, whose cells begin at `start`; no extents where the operation does not use it.
 fn operand(mask: usize, k: usize, r: Record, start: usize) -> Operand
@@ -62,9 +52,9 @@ fn run_nodes(
     while i < count {
         let x = plan::node_at(table, i);
         let mask = plan::used_mask(x.op);
-        let place1 = source_place(x.source1, i);
-        let place2 = source_place(x.source2, i);
-        let place3 = source_place(x.source3, i);
+        let place1 = verifier::source_place(x.source1, i);
+        let place2 = verifier::source_place(x.source2, i);
+        let place3 = verifier::source_place(x.source3, i);
         let a = operand(mask, 1, records[place1], starts[place1]);
         let b = operand(mask, 2, records[place2], starts[place2]);
         let d = operand(mask, 3, records[place3], starts[place3]);

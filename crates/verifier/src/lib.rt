@@ -362,7 +362,7 @@ fn early(table: &[i64], i: usize, x: Node, mask: usize) -> usize
 }
 
 // Where the record of a source stands; 0 where it is no earlier node.
-fn source_place(s: NodeNumber, i: usize) -> usize
+pub fn source_place(s: NodeNumber, i: usize) -> usize
     requires { ⌜ i < 256 ⌝ }
     ensures { λ r. ⌜ (r < 256) × (s .0 < i → r ≡ s .0) ⌝ }
 {
