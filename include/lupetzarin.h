@@ -1,4 +1,4 @@
-/* Lupetzarin: plans over whole numbers with gaps, unpacked and checked by proved code.
+/* Lupetzarin: plans over whole numbers with gaps, unpacked, checked and run by proved code.
  *
  * Every call answers for any bytes and any buffers; nothing is undefined as long as the caller keeps these:
  *   - a pointer and its length describe memory that the call may read (const) or write; where the length is 0 the pointer may be NULL;
@@ -37,6 +37,15 @@ lup_answer lup_check(const int64_t *table, size_t nwords, int64_t *derived, size
  * lup_unpack with room for every plan, or of lup_check.
  * Stack: 64,272 bytes measured in the same way; 80 KiB is enough. */
 uint64_t lup_unpack_check(const uint8_t *bytes, size_t nbytes);
+
+/* Runs a plan. values and flags are the input: the elements of all PARAM nodes end to end in node order, flags 1 for a known number and 0 for
+ * a gap, whose value is never looked at. Writes every element of every node, end to end in node order, a gap as value 0 and flag 0; places past
+ * them stay as they were. count: the gaps of the last node, the output. Refusals, in order: those of lup_check but its 14; 13, a length of the
+ * input is not the number of all PARAM elements; 14, a result buffer is shorter than all elements of all nodes; 15 or 16 at the first bad
+ * position of the input (place: that position): a flag neither 0 nor 1; a known number outside its PARAM's low and high.
+ * Stack: 49,568 bytes measured on a plan with every kind of node (painted stack, x86-64); 80 KiB is enough. */
+lup_answer lup_run(const int64_t *table, size_t nwords, const int64_t *values, size_t nvalues, const uint8_t *flags, size_t nflags,
+                   int64_t *out_values, size_t nout_values, uint8_t *out_flags, size_t nout_flags);
 
 #ifdef __cplusplus
 }
