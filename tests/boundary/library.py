@@ -5,12 +5,15 @@ import mmap
 import os
 import re
 import subprocess
+from array import array
 
 ROOT = os.path.dirname(os.path.dirname(os.path.dirname(os.path.abspath(__file__))))
 SHARED_OBJECT = os.path.join(ROOT, 'build', 'liblupetzarin.so')
 HEADER = os.path.join(ROOT, 'include', 'lupetzarin.h')
 WORDS = ctypes.POINTER(ctypes.c_int64)
 GUARD = [-7] * 16
+# What all PARAMs together can hold: 4194304 elements of eight bytes.
+MOST_INPUT_BYTES = 2 ** 25
 
 
 class Answer(ctypes.Structure):
@@ -56,6 +59,21 @@ class Table:
         return self.memory[:len(GUARD)] == GUARD and self.memory[len(GUARD) + self.room:] == GUARD
 
 
+class Guarded:
+    """The items of an array between guards, for results of any size."""
+
+    def __init__(self, items):
+        self.guard = array(items.typecode, [93] * 16)
+        self.memory = self.guard + items + self.guard
+        self.start = self.memory.buffer_info()[0] + len(self.guard) * items.itemsize
+
+    def items(self):
+        return self.memory[len(self.guard):-len(self.guard)]
+
+    def guards_hold(self):
+        return self.memory[:len(self.guard)] == self.guard == self.memory[-len(self.guard):]
+
+
 def declared():
     """The calls that the header declares."""
     with open(HEADER, encoding='utf-8') as header:
@@ -77,7 +95,10 @@ class Library:
         self.calls.lup_check.restype = Answer
         self.calls.lup_unpack_check.argtypes = [ctypes.c_void_p, ctypes.c_size_t]
         self.calls.lup_unpack_check.restype = ctypes.c_uint64
+        self.calls.lup_run.argtypes = [ctypes.c_void_p, ctypes.c_size_t] * 5
+        self.calls.lup_run.restype = Answer
         self.bytes = Bytes()
+        self.inputs = [Bytes(40000), Bytes(MOST_INPUT_BYTES), Bytes(MOST_INPUT_BYTES)]
 
     def unpack(self, data, words, null=False):
         """The answer, the table afterwards, and whether all else is as it was. null: NULL where a length is 0."""
@@ -99,3 +120,15 @@ class Library:
         """The answer, and whether the bytes are as they were."""
         source = None if null and not data else self.bytes.put(data)
         return self.calls.lup_unpack_check(source, len(data)), self.bytes.hold(data)
+
+    def run(self, plan, values, flags, out_values, out_flags, null=False):
+        """The answer of a run, both result buffers afterwards, and whether all else is as it was. Words and values are arrays of 'q', flags of
+        'B'; each input ends where a page begins that cannot be read."""
+        inputs = [(memory, items.tobytes(), len(items)) for memory, items in zip(self.inputs, (plan, values, flags))]
+        results = [Guarded(out_values), Guarded(out_flags)]
+        starts = [memory.put(data) for memory, data, _ in inputs] + [result.start for result in results]
+        rooms = [room for _, _, room in inputs] + [len(out_values), len(out_flags)]
+        starts = [None if null and room == 0 else start for start, room in zip(starts, rooms)]
+        answer = self.calls.lup_run(*(argument for pair in zip(starts, rooms) for argument in pair)).triple()
+        unchanged = all(memory.hold(data) for memory, data, _ in inputs) and all(result.guards_hold() for result in results)
+        return answer, *(result.items() for result in results), unchanged

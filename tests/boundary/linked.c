@@ -2,6 +2,7 @@
 #include "lupetzarin.h"
 
 #include <stdio.h>
+#include <string.h>
 
 #define ROOM 18
 #define PATTERN 1000
@@ -86,9 +87,57 @@ static void check_examples(void) {
     expect(lup_unpack_check(five, 3) == 20 * 65536 + 3, "cut off: 20 at 3");
 }
 
+/* PARAM of two i16 numbers in -9..9, padded to four at 1, and the sum of all four. */
+static void small_plan(int64_t *table) {
+    static const int64_t param[13] = {1, 0, 0, 0, 2, 0, 1, -9, 9, 2}, pad[14] = {6, 0, 0, 0, 0, 0, 0, 0, 0, 4, 0, 0, 0, 1}, sum[10] = {19, 1, 0, 0, 0, 0, 0, 0, 0, 1};
+
+    memset(table, 0, 3 * 17 * sizeof *table);
+    memcpy(table, param, sizeof param);
+    memcpy(table + 17, pad, sizeof pad);
+    memcpy(table + 2 * 17, sum, sizeof sum);
+}
+
+static void fill_flags(uint8_t *flags) {
+    for (size_t k = 0; k < ROOM; k++) flags[k] = (uint8_t)(100 + k);
+}
+
+/* Whether the flags from `from` on are as fill_flags left them. */
+static int flags_stay(const uint8_t *flags, size_t from) {
+    for (size_t k = from; k < ROOM; k++)
+        if (flags[k] != 100 + k) return 0;
+    return 1;
+}
+
+static void run_examples(void) {
+    static const int64_t inputs[] = {7, INT64_MIN}, wanted[] = {7, 0, 0, 7, 0, 0, 0};
+    static const uint8_t known[] = {1, 0}, wanted_flags[] = {1, 0, 0, 1, 0, 0, 0}, bad[] = {1, 2};
+    int64_t table[3 * 17], values[ROOM];
+    uint8_t flags[ROOM];
+
+    small_plan(table);
+    fill(values);
+    fill_flags(flags);
+    expect(answers(lup_run(table, 3 * 17, inputs, 2, known, 2, values, ROOM, flags, ROOM), 0, 0, 1), "a run: one gap in the output");
+    expect(!memcmp(values, wanted, sizeof wanted) && stays(values, 7), "a run: 7 gap, gap 7 gap gap, gap; the values after them as they were");
+    expect(!memcmp(flags, wanted_flags, sizeof wanted_flags) && flags_stay(flags, 7), "a run: the flags, and those after them as they were");
+    expect(answers(lup_run(table, 2 * 17, inputs, 2, known, 2, values, 6, flags, 6), 0, 0, 3), "without the sum, in exact rooms: three gaps in the output");
+
+    fill(values);
+    fill_flags(flags);
+    expect(answers(lup_run(table, 17, inputs, 1, known, 2, values, ROOM, flags, ROOM), 13, 0, 0), "one value for two: refused 13");
+    expect(answers(lup_run(table, 17, inputs, 2, known, 1, values, ROOM, flags, ROOM), 13, 0, 0), "one flag for two: refused 13");
+    expect(answers(lup_run(table, 17, inputs, 2, known, 2, values, 1, flags, ROOM), 14, 0, 0), "room for one value of two: refused 14");
+    expect(answers(lup_run(table, 17, inputs, 2, known, 2, values, ROOM, flags, 1), 14, 0, 0), "room for one flag of two: refused 14");
+    expect(answers(lup_run(table, 17, inputs, 2, bad, 2, values, ROOM, flags, ROOM), 15, 1, 0), "flag 2: refused 15 at 1");
+    expect(answers(lup_run(table, 17, (const int64_t[]){9, 10}, 2, (const uint8_t[]){1, 1}, 2, values, ROOM, flags, ROOM), 16, 1, 0), "10 over 9: refused 16 at 1");
+    expect(answers(lup_run(NULL, 0, NULL, 0, NULL, 0, NULL, 0, NULL, 0), 1, 0, 0), "no table: refused 1");
+    expect(stays(values, 0) && flags_stay(flags, 0), "refused: both buffers as they were");
+}
+
 int main(void) {
     unpack_examples();
     check_examples();
+    run_examples();
     printf("%u passed, %u failed\n", passed, failed);
     return failed != 0;
 }

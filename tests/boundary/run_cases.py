@@ -1,0 +1,236 @@
+"""Accepted plans with inputs for test_run.py: random ones, and every way of every movement, reduction and broadcast at rank 4."""
+
+from collections import namedtuple
+from itertools import permutations, product
+from math import prod
+from random import Random
+
+import cases
+import model
+from cases import BIG, apply, const, move, node, param, reduce_node
+from model import (ADD, AND, CAST, CMPLT, CMPNE, EXPAND, FLIP, IDIV, LOAD, MAX, MOD, MUL, OR, PAD, PARAM, PERMUTE, REDUCE, RESHAPE, SHRINK, WHERE)
+
+I16, I32 = 2, 3
+WIDE = 1000
+BASE = (2, 3, 2, 2)
+GARBAGE = (-BIG, BIG - 1, 0, 1, -1, 2 ** 32, 32768)
+
+Run = namedtuple('Run', 'note table values flags')
+
+
+class Chain(cases.Plan):
+    """A plan of up to 256 nodes; only the new node is checked."""
+
+    def add(self, words):
+        if words is None or len(self.records) == model.MOST_NODES:
+            return False
+        fresh = model.Node(words, self.records, len(self.params()))
+        if any(broken(fresh) for _, broken in model.NODE_RULES):
+            return False
+        device = max(model.result_devices(fresh), default=0)
+        record = model.Record(model.result_dtype(fresh), device, *model.result_interval(fresh), model.result_extents(fresh))
+        if prod(record.extents) > 40 or self.total() + prod(record.extents) > self.most:
+            return False
+        self.table, self.records = self.table + words, [*self.records, record]
+        return True
+
+
+class Late(Random):
+    """Picks a source among the last nodes more often than not, which makes long chains of sources."""
+
+    def randrange(self, start, *stop):
+        if not stop and self.random() < 0.7:
+            return max(0, start - self.choice((1, 1, 1, 2, 3)))
+        return super().randrange(start, *stop)
+
+
+def depth(table):
+    """The longest chain of sources."""
+    lengths = []
+    for first in range(0, len(table), 17):
+        sources = [table[first + word] for word in (1, 2, 3) if word in model.USED_WORDS[table[first]]]
+        lengths.append(1 + max((lengths[source] for source in sources), default=0))
+    return max(lengths)
+
+
+def params_of(table):
+    records = model.verdict(table)[1]
+    return [record for k, record in enumerate(records) if table[17 * k] == PARAM]
+
+
+def inputs_of(rng, table, gap_share):
+    """Values within their limits, with garbage under the gaps."""
+    values, flags = [], []
+    for record in params_of(table):
+        for _ in range(prod(record.extents)):
+            known = rng.random() >= gap_share
+            values.append(rng.randint(record.low, record.high) if known else rng.choice(GARBAGE))
+            flags.append(int(known))
+    return values, flags
+
+
+def some_runs(rng, note, table, shares=(0, 0.1, 0.5)):
+    for share in shares:
+        yield Run(note, table, *inputs_of(rng, table, share))
+
+
+# ---------------------------------------------------------------- random plans
+
+def random_runs(rng, count):
+    """Every operation at every rank in turn, with no, few and many gaps."""
+    for turn in range(count):
+        op, rank = turn % 21, (turn // 21) % 5
+        plan = cases.make_plan(rng, op, rank)
+        yield Run(f'random {turn}', plan.table, *cases.random_inputs(rng, plan, rng.choice((0, 0.1, 0.3, 0.6))))
+
+
+def chain_runs(rng, count):
+    """Long plans with long chains of sources."""
+    late = Late(rng.randrange(2 ** 32))
+    for turn in range(count):
+        plan, nodes = Chain(1500), rng.choice((20, 40, 80, 256))
+        base = [late.choice((1, 2, 2, 3)) for _ in range(turn % 5)]
+        plan.add(const(I16, 3))
+        for _ in range(late.randint(2, 16)):
+            dtype = late.choice((0, 1, I16, I16, I32, I32))
+            low, high = cases.random_interval(late, dtype)
+            extents = [extent if late.random() < 0.7 else 1 for extent in base][late.choice((0, 0, 0, 1, 2)):]
+            plan.add(param(len(plan.params()), dtype, low, high, extents))
+        for _ in range(6 * nodes):
+            if len(plan.records) >= nodes:
+                break
+            plan.add(cases.propose(late, plan, late.choice(range(21)), base))
+        yield Run(f'chain {turn}', plan.table, *inputs_of(rng, plan.table, rng.choice((0, 0.02, 0.1))))
+
+
+# --------------------------------------------------- every way of the movements
+
+def numbered(shape, slot=0):
+    return param(slot, I16, -WIDE, WIDE, shape)
+
+
+def movement_tables():
+    """(note, table): one PARAM and each way to move it."""
+    for shape in (BASE, (1, 3, 2, 4), (3, 1, 2, 1), (2, 3, 4), (3, 2), (4,), ()):
+        rank = len(shape)
+        yield f'PERMUTE of {shape}', numbered(shape) + sum((move(PERMUTE, 0, turn) for turn in permutations(range(rank))), [])
+        yield f'FLIP of {shape}', numbered(shape) + sum((move(FLIP, 0, flags) for flags in product((0, 1), repeat=rank)), [])
+    shapes = [shape for rank in range(1, 5) for shape in product((1, 2, 3, 4, 6, 8, 12, 24), repeat=rank) if prod(shape) == prod(BASE)]
+    yield 'RESHAPE to every shape', numbered(BASE) + sum((move(RESHAPE, 0, shape) for shape in shapes), [])
+    yield 'RESHAPE of one element', numbered(()) + sum((move(RESHAPE, rank, (1,) * rank) for rank in (0, 1, 2, 3, 4)), []) + move(RESHAPE, 5, ())
+    yield 'PERMUTE twice', numbered(BASE) + sum((move(PERMUTE, k, turn) for k, turn in enumerate(permutations(range(4)))), [])
+
+
+def offset_tables():
+    """(note, table): PAD and SHRINK with offsets at both ends of each axis, and within."""
+    for rank in range(5):
+        inner, outer = (2, 1, 3, 2)[:rank], (3, 3, 4, 3)[:rank]
+        ends = list(product(*((0, o - i) for i, o in zip(inner, outer))))
+        yield f'PAD to {outer}', numbered(inner) + sum((move(PAD, 0, outer, offsets) for offsets in ends), [])
+        yield f'SHRINK to {inner}', numbered(outer) + sum((move(SHRINK, 0, inner, offsets) for offsets in ends), [])
+        there_and_back = [move(PAD, 0, outer, offsets) + move(SHRINK, 2 * k + 1, inner, offsets) for k, offsets in enumerate(ends)]
+        yield f'PAD to {outer} and SHRINK', numbered(inner) + sum(there_and_back, [])
+    every = list(product(range(3), range(4)))
+    yield 'PAD at every offset', numbered((2, 2)) + sum((move(PAD, 0, (4, 5), offsets) for offsets in every), [])
+    yield 'SHRINK at every offset', numbered((4, 5)) + sum((move(SHRINK, 0, (2, 2), offsets) for offsets in every), [])
+
+
+def partly_one(shape):
+    """The shape with each axis kept or 1."""
+    return list(product(*((1, extent) for extent in shape)))
+
+
+def expand_tables():
+    """(note, table): every choice of axes, at rank 4 with 16 PARAMs."""
+    for rank in range(5):
+        target = BASE[:rank]
+        sources = partly_one(target)
+        table = sum((numbered(shape, slot) for slot, shape in enumerate(sources)), [])
+        yield f'EXPAND to {target}', table + sum((move(EXPAND, k, target) for k in range(len(sources))), [])
+    yield 'EXPAND step by step', numbered((1, 1, 1, 1)) + sum((move(EXPAND, k, BASE[:k + 1] + (1,) * (3 - k)) for k in range(4)), [])
+
+
+def movement_runs(rng):
+    for note, table in (*movement_tables(), *offset_tables(), *expand_tables()):
+        yield from some_runs(rng, note, table)
+
+
+# -------------------------------------------------------- reductions, broadcasts
+
+def reduce_runs(rng):
+    """Every choice of flags at every rank, sum and greatest, with a gap at each place in turn."""
+    for shape in (BASE, (3, 1, 2, 1), (2, 3, 2), (2, 3), (4,), ()):
+        flags = list(product((0, 1), repeat=len(shape)))
+        table = numbered(shape) + sum((reduce_node(0, number, row) for number in (0, 1) for row in flags), [])
+        yield from some_runs(rng, f'REDUCE of {shape}', table)
+        yield from some_runs(rng, f'REDUCE of {shape}, below zero', param(0, I16, -WIDE, -1, shape) + table[17:], (0, 0.1))
+        for gap in range(prod(shape)):
+            values, known = inputs_of(rng, table, 0)
+            values[gap], known[gap] = rng.choice(GARBAGE), 0
+            yield Run(f'REDUCE of {shape} with gap {gap}', table, values, known)
+
+
+BINARY_LIMITS = {ADD: (I16, (-WIDE, WIDE), (-WIDE, WIDE)), MUL: (I32, (-WIDE, WIDE), (-WIDE, WIDE)), MAX: (I16, (-WIDE, WIDE), (-WIDE, WIDE)),
+                 IDIV: (I16, (-WIDE, WIDE), (-9, -1)), MOD: (I16, (-WIDE, WIDE), (2, 99)), CMPLT: (I16, (-3, 3), (-3, 3)),
+                 CMPNE: (I16, (-1, 1), (-1, 1)), AND: (0, (0, 1), (0, 1)), OR: (0, (0, 1), (0, 1))}
+BROADCASTING = [shape for rank in range(5) for shape in partly_one(BASE[4 - rank:])]
+
+
+def broadcast_runs(rng, wheres):
+    """A binary operation on each pair of shapes that meet in 2x3x2x2, and some WHEREs on three of them."""
+    for turn, (first, second) in enumerate(product(BROADCASTING, repeat=2)):
+        op = model.BINARY[turn % len(model.BINARY)]
+        dtype, *limits = BINARY_LIMITS[op]
+        table = param(0, dtype, *limits[0], first) + param(1, dtype, *limits[1], second) + apply(op, 0, 1)
+        yield from some_runs(rng, f'operation {op} on {first} and {second}', table, (rng.choice((0, 0.1, 0.4)),))
+    for _ in range(wheres):
+        condition, second, third = rng.choices(BROADCASTING, k=3)
+        table = param(0, 0, 0, 1, condition) + param(1, I16, -WIDE, WIDE, second) + param(2, I16, -WIDE, WIDE, third) + apply(WHERE, 0, 1, 2)
+        yield from some_runs(rng, f'WHERE on {condition}, {second}, {third}', table, (rng.choice((0, 0.1, 0.4)),))
+
+
+# -------------------------------------------------------------- number by number
+
+def each_with_each(op, dtype, first, second):
+    """Two PARAMs that hold the numbers, None for a gap, crossed by a binary operation."""
+    ends = [(min(n for n in numbers if n is not None), max(n for n in numbers if n is not None)) for numbers in (first, second)]
+    table = param(0, dtype, *ends[0], (len(first), 1)) + param(1, dtype, *ends[1], (len(second),)) + apply(op, 0, 1)
+    return cases.hand_run(table, [*first, *second]).args[:3]
+
+
+def number_runs():
+    """Every sign against every sign, the ends of the types, and gaps on each side."""
+    dividends, low, high = [*range(-9, 10), None], -2 ** 31, 2 ** 31 - 1
+    for op in (IDIV, MOD):
+        for divisors in ([1, 2, 3, 4, 5, 9, 10, None], [-1, -2, -3, -4, -5, -9, -10, None]):
+            yield Run(f'operation {op} by {divisors}', *each_with_each(op, I16, dividends, divisors))
+        ends = [low, low + 1, -46341, -2, -1, 0, 1, 2, 46341, high - 1, high, None]
+        yield Run(f'operation {op} at the ends', *each_with_each(op, I32, ends, [1, 2, 3, 65536, high - 1, high, None]))
+        yield Run(f'operation {op} at the ends', *each_with_each(op, I32, ends[1:], [low, low + 1, -65536, -3, -2, -1, None]))
+        yield Run(f'operation {op} of u8', *each_with_each(op, 1, [0, 1, 127, 128, 255, None], [1, 2, 127, 128, 255, None]))
+    for op, dtype, numbers in ((ADD, I16, [-16384, -1, 0, 1, 16383, None]), (ADD, I32, [-2 ** 30, -1, 0, 2 ** 30 - 1, None]), (ADD, 1, [0, 1, 127, None]),
+                               (MUL, I32, [-46340, -2, -1, 0, 1, 46340, None]), (MUL, 1, [0, 1, 15, None]), (MAX, I32, [low, -1, 0, high, None]),
+                               (CMPLT, I32, [low, low + 1, -1, 0, 1, high, None]), (CMPNE, I32, [low, -1, 0, 1, high, None]),
+                               (CMPLT, 1, [0, 1, 254, 255, None]), (CMPNE, 0, [0, 1, None]), (AND, 0, [0, 1, None]), (OR, 0, [0, 1, None])):
+        yield Run(f'operation {op} each with each', *each_with_each(op, dtype, numbers, numbers))
+    table = param(0, 0, 0, 1, (3, 1, 1)) + param(1, I32, low, high, (3, 1)) + param(2, I32, low, high, (3,)) + apply(WHERE, 0, 1, 2)
+    yield Run('WHERE each with each', *cases.hand_run(table, [0, 1, None, low, 5, None, high, None, 6]).args[:3])
+    table = param(0, I32, 0, 1, (3,)) + sum((node(CAST, {1: k, 4: dtype}) for k, dtype in enumerate((0, 1, 2, 3, 0, 3, 2, 1, 0))), [])
+    yield Run('CAST to every type', *cases.hand_run(table + node(LOAD, {1: 9, 6: 255}), [0, 1, None]).args[:3])
+
+
+def by_hand():
+    """The runs by hand of tests/model."""
+    for case in (*cases.elementwise_runs(), *cases.movement_runs()):
+        yield Run(case.note, *case.args[:3])
+    slots = sum((param(k, I32, -k, k, ((k % 3) + 1,)) + const(I32, k) for k in range(16)), [])
+    yield Run('16 PARAMs between CONSTs', slots, [v for k in range(16) for v in ([k, -k, 0][:k % 3 + 1])], [1] * sum(k % 3 + 1 for k in range(16)))
+    yield Run('256 CONSTs', sum((const(I16, 100 * k) for k in range(256)), []), [], [])
+
+
+def fixed_runs(rng):
+    yield from by_hand()
+    yield from number_runs()
+    yield from movement_runs(rng)
+    yield from reduce_runs(rng)
+    yield from broadcast_runs(rng, 600)

@@ -1,0 +1,191 @@
+"""Runs by hand: every answer and every element is written here from the sentence of 01 above it. test_run.py runs them, and asks the model too.
+
+An input is a number (known), GAP (flag 0 over a number that no limits hold) or a pair (value, flag)."""
+
+from collections import namedtuple
+
+from cases import BIG, LARGE, apply, const, large, move, node, param, reduce_node
+from model import (ADD, AND, CAST, CMPLT, CMPNE, EXPAND, FLIP, IDIV, LOAD, MAX, MOD, MUL, OR, PAD, PERMUTE, RESHAPE, SHRINK, WHERE)
+
+GAP = None
+BOOL, U8, I16, I32 = range(4)
+I32_LOW, I32_HIGH = -2147483648, 2147483647
+
+# answer: number, place, count. elements: of all nodes end to end, GAP for a gap; None where the run is refused. rooms: of values and of flags.
+Example = namedtuple('Example', 'name table values flags rooms answer elements')
+
+
+def split(inputs):
+    """Values and flags of the inputs, the least and the greatest word in turn under the gaps."""
+    pairs = [(BIG - 1 if k % 2 else -BIG, 0) if item is GAP else item if isinstance(item, tuple) else (item, 1) for k, item in enumerate(inputs)]
+    return [value for value, _ in pairs], [flag for _, flag in pairs]
+
+
+def completes(name, table, inputs, *nodes, more=(0, 0)):
+    """A run that completes: the elements of each node, in order."""
+    elements = [element for elements in nodes for element in elements]
+    rooms = tuple(len(elements) + extra for extra in more)
+    return Example(name, table, *split(inputs), rooms, (0, 0, nodes[-1].count(GAP)), elements)
+
+
+def refused(name, number, place, table, inputs, rooms=(40, 40), flags=None):
+    """A run that is refused; flags only where their length is not that of the values."""
+    values, own = split(inputs)
+    return Example(name, table, values, own if flags is None else flags, rooms, (number, place, 0), None)
+
+
+def scalars(dtype, *limits):
+    return [word for slot, ends in enumerate(limits) for word in param(slot, dtype, *ends, ())]
+
+
+def binary(name, op, dtype, limits, inputs, result):
+    """A binary operation on two numbers or gaps."""
+    return completes(f'{name} of {inputs[0]} and {inputs[1]}', scalars(dtype, *limits) + apply(op, 0, 1), inputs, inputs[:1], inputs[1:], [result])
+
+
+# ------------------------------------------------------------ numbers and gaps
+
+WHOLE_I16, SIGNED, NATURAL, TRUTH = (-32768, 32767), (-9, 9), (1, 9), (0, 1)
+NUMBERS = [
+    # "IDIV is the floor of a/b and MOD is a − b·floor(a/b)"; "The language's own remainder for MOD of −7 by 2 (here 1)."
+    *(binary('IDIV', IDIV, I16, (SIGNED, (1, 9) if b > 0 else (-9, -1)), [a, b], quotient)
+      for a, b, quotient in ((7, 1, 7), (-7, 1, -7), (7, -1, -7), (-7, -1, 7), (0, 1, 0), (0, -1, 0))),
+    *(binary('IDIV', IDIV, I16, (SIGNED, (2, 9) if b > 0 else (-9, -2)), [a, b], quotient)
+      for a, b, quotient in ((-7, 2, -4), (7, 2, 3), (7, -2, -4), (-7, -2, 3), (-6, 2, -3), (6, -2, -3), (-1, 3, -1), (1, -3, -1), (-1, -3, 0), (1, 3, 0))),
+    *(binary('MOD', MOD, I16, (SIGNED, (2, 9) if b > 0 else (-9, -2)), [a, b], rest)
+      for a, b, rest in ((-7, 2, 1), (7, 2, 1), (7, -2, -1), (-7, -2, -1), (-6, 2, 0), (6, -2, 0), (-1, 3, 2), (1, -3, -2), (-1, -3, -1), (1, 3, 1), (0, 5, 0))),
+    binary('IDIV', IDIV, I32, ((I32_LOW, I32_HIGH), (2, I32_HIGH)), [I32_LOW, I32_HIGH], -2),
+    binary('MOD', MOD, I32, ((I32_LOW, I32_HIGH), (2, I32_HIGH)), [I32_LOW, I32_HIGH], 2147483646),
+    binary('IDIV', IDIV, I32, ((I32_LOW, I32_HIGH), (I32_LOW, -2)), [I32_LOW, I32_LOW], 1),
+    binary('IDIV', IDIV, I32, ((I32_LOW, I32_HIGH), (I32_LOW, -2)), [I32_HIGH, I32_LOW], -1),
+    binary('MOD', MOD, I32, ((I32_LOW, I32_HIGH), (I32_LOW, -2)), [I32_HIGH, I32_LOW], -1),
+    binary('IDIV', IDIV, I32, ((I32_LOW, 0), (1, 1)), [I32_LOW, 1], I32_LOW),
+    # "Two corners for MUL" is a slip of bounds; the numbers at its ends
+    binary('MUL', MUL, I16, ((-3, 2), (-5, 4)), [-3, -5], 15),
+    binary('MUL', MUL, I16, ((-3, 2), (-5, 4)), [-3, 4], -12),
+    binary('MUL', MUL, I32, ((-46340, 46340), (-46340, 46340)), [-46340, 46340], -2147395600),
+    # "● i16 [−16384,16383] added to itself: [−32768,32766]."
+    completes('ADD to itself', param(0, I16, -16384, 16383, (2,)) + apply(ADD, 0, 0), [-16384, 16383], [-16384, 16383], [-32768, 32766]),
+    binary('MAX', MAX, I16, (WHOLE_I16, WHOLE_I16), [-32768, -32767], -32767),
+    *(binary('CMPLT', CMPLT, I16, (SIGNED, SIGNED), [a, b], less) for a, b, less in ((-3, 2, 1), (2, -3, 0), (2, 2, 0), (-9, 9, 1))),
+    *(binary('CMPNE', CMPNE, I16, (SIGNED, SIGNED), [a, b], other) for a, b, other in ((-3, 3, 1), (3, 3, 0), (0, 0, 0))),
+    *(binary('AND', AND, BOOL, (TRUTH, TRUTH), [a, b], both) for a, b, both in ((0, 0, 0), (0, 1, 0), (1, 0, 0), (1, 1, 1))),
+    *(binary('OR', OR, BOOL, (TRUTH, TRUTH), [a, b], one) for a, b, one in ((0, 0, 0), (0, 1, 1), (1, 0, 1), (1, 1, 1))),
+    # "CAST and LOAD keep numbers."
+    completes('CAST keeps', param(0, I32, 0, 255, (3,)) + node(CAST, {1: 0, 4: U8}), [0, GAP, 255], [0, GAP, 255], [0, GAP, 255]),
+    completes('LOAD keeps', param(0, I32, I32_LOW, I32_HIGH, (3,)) + node(LOAD, {1: 0, 6: 9}), [I32_LOW, I32_HIGH, GAP],
+              [I32_LOW, I32_HIGH, GAP], [I32_LOW, I32_HIGH, GAP]),
+    # "writes all nodes' elements end to end": a plan without a PARAM takes no input
+    completes('a CONST', const(I16, -5), [], [-5]),
+    completes('two CONSTs and their sum, with room left', const(I16, -5) + const(I16, 7) + apply(ADD, 0, 1), [], [-5], [7], [2], more=(3, 5)),
+]
+GAPS = [
+    # "A binary result is a gap if either side is": also where the other side would decide
+    *(binary(name, op, dtype, limits, inputs, GAP)
+      for name, op, dtype, limits, known in (('ADD', ADD, I16, (SIGNED, SIGNED), 0), ('MUL', MUL, I16, (SIGNED, SIGNED), 0),
+                                             ('MAX', MAX, I16, (SIGNED, SIGNED), 9), ('IDIV', IDIV, I16, (NATURAL, NATURAL), 9),
+                                             ('MOD', MOD, I16, (NATURAL, NATURAL), 1), ('CMPLT', CMPLT, I16, (SIGNED, SIGNED), -9),
+                                             ('CMPNE', CMPNE, I16, (SIGNED, SIGNED), 9), ('AND', AND, BOOL, (TRUTH, TRUTH), 0),
+                                             ('OR', OR, BOOL, (TRUTH, TRUTH), 1))
+      for inputs in ([known, GAP], [GAP, known], [GAP, GAP])),
+    # "WHERE is a gap if the condition is one or the chosen side is."; "● WHERE 1, 4, gap: 4."
+    *(completes(f'WHERE {condition}, {second}, {third}', param(0, BOOL, 0, 1, ()) + param(1, I16, 0, 9, ()) + param(2, I16, 0, 9, ()) + apply(WHERE, 0, 1, 2),
+                [condition, second, third], [condition], [second], [third], [result])
+      for condition, second, third, result in ((1, 4, GAP, 4), (1, GAP, 4, GAP), (0, 4, GAP, GAP), (0, GAP, 4, 4), (GAP, 4, 4, GAP), (1, 4, 5, 4),
+                                               (0, 4, 5, 5), (GAP, GAP, GAP, GAP))),
+    # "Treating a gap as 0 inside a sum." is a slip; "REDUCE if any element it gathers is."
+    completes('sum with a gap', param(0, I16, -9, 9, (3,)) + reduce_node(0, 0, (1,)), [1, GAP, 3], [1, GAP, 3], [GAP]),
+    completes('sum of the known', param(0, I16, -9, 9, (3,)) + reduce_node(0, 0, (1,)), [1, -9, 3], [1, -9, 3], [-5]),
+    completes('greatest with a gap', param(0, I16, -9, 9, (3,)) + reduce_node(0, 1, (1,)), [-3, GAP, -5], [-3, GAP, -5], [GAP]),
+    completes('greatest of numbers below zero', param(0, I16, -9, 9, (3,)) + reduce_node(0, 1, (1,)), [-3, -9, -5], [-3, -9, -5], [-3]),
+    *(completes(f'2x3 with a gap, {name} over {flags}', param(0, I16, -9, 9, (2, 3)) + reduce_node(0, number, flags), [1, GAP, 3, 4, 5, 6],
+                [1, GAP, 3, 4, 5, 6], result)
+      for name, number, flags, result in (('sum', 0, (0, 1), [GAP, 15]), ('sum', 0, (1, 0), [5, GAP, 9]), ('sum', 0, (1, 1), [GAP]),
+                                          ('sum', 0, (0, 0), [1, GAP, 3, 4, 5, 6]), ('greatest', 1, (0, 1), [GAP, 6]),
+                                          ('greatest', 1, (1, 0), [4, GAP, 6]), ('greatest', 1, (1, 1), [GAP]))),
+    # "A gap is written as value 0, flag 0."; "The answer carries the number of gaps in the output node."
+    completes('gaps of the output alone are counted', param(0, I16, -9, 9, (3,)) + move(SHRINK, 0, (1,), (1,)), [GAP, 5, GAP], [GAP, 5, GAP], [5]),
+    completes('an output of gaps', param(0, I16, -9, 9, (3,)), [GAP, GAP, GAP], [GAP, GAP, GAP]),
+    # "Testing limits under a gap." is a slip
+    completes('numbers outside the limits under gaps', param(0, U8, 3, 5, (4,)), [(2, 0), (6, 0), (-BIG, 0), (BIG - 1, 0)], [GAP] * 4),
+]
+MOVEMENTS = [
+    # "● 7 9 padded to 5 at 1: gap 7 9 gap gap; flipped: gap gap 9 7 gap."
+    completes('padded and flipped', param(0, I16, 0, 9, (2,)) + move(PAD, 0, (5,), (1,)) + move(FLIP, 1, (1,)), [7, 9],
+              [7, 9], [GAP, 7, 9, GAP, GAP], [GAP, GAP, 9, 7, GAP]),
+    # "● PERMUTE (1,0) of 2x3: element 3 is source element 4."
+    completes('PERMUTE (1,0) of 2x3', param(0, I16, 0, 5, (2, 3)) + move(PERMUTE, 0, (1, 0)), [0, 1, 2, 3, 4, GAP],
+              [0, 1, 2, 3, 4, GAP], [0, 3, 1, 4, 2, GAP]),
+    # "PERMUTE: result axis k is source axis A_k.": no turn that is its own inverse
+    completes('PERMUTE (2,0,1) of 1x2x3', param(0, I16, 0, 5, (1, 2, 3)) + move(PERMUTE, 0, (2, 0, 1)), [0, 1, 2, 3, 4, 5],
+              [0, 1, 2, 3, 4, 5], [0, 3, 1, 4, 2, 5]),
+    # "FLIP: flag 1 reverses."
+    completes('FLIP of the first axis', param(0, I16, 0, 5, (2, 3)) + move(FLIP, 0, (1, 0)), [0, 1, GAP, 3, 4, 5], [0, 1, GAP, 3, 4, 5], [3, 4, 5, 0, 1, GAP]),
+    completes('FLIP of the last axis', param(0, I16, 0, 5, (2, 3)) + move(FLIP, 0, (0, 1)), [0, 1, GAP, 3, 4, 5], [0, 1, GAP, 3, 4, 5], [GAP, 1, 0, 5, 4, 3]),
+    # "Elements are numbered row-major."
+    completes('RESHAPE keeps the order', param(0, I16, 0, 5, (2, 3)) + move(RESHAPE, 0, (3, 2)), [0, 1, 2, 3, GAP, 5], [0, 1, 2, 3, GAP, 5], [0, 1, 2, 3, GAP, 5]),
+    completes('EXPAND of the first axis', param(0, I16, 0, 5, (1, 2)) + move(EXPAND, 0, (3, 2)), [4, GAP], [4, GAP], [4, GAP, 4, GAP, 4, GAP]),
+    completes('EXPAND of the last axis', param(0, I16, 0, 5, (2, 1)) + move(EXPAND, 0, (2, 3)), [4, GAP], [4, GAP], [4, 4, 4, GAP, GAP, GAP]),
+    # "PAD: same rank, offset o_k + s_k ≤ s'_k. SHRINK: same rank, o_k + s'_k ≤ s_k. A is s', B is o."
+    completes('PAD with o+s equal to s\'', param(0, I16, 0, 5, (1, 2)) + move(PAD, 0, (2, 3), (1, 1)), [4, 5], [4, 5], [GAP, GAP, GAP, GAP, 4, 5]),
+    completes('SHRINK with o+s\' equal to s', param(0, I16, 0, 5, (2, 3)) + move(SHRINK, 0, (1, 2), (1, 1)), [0, 1, 2, 3, 4, GAP], [0, 1, 2, 3, 4, GAP], [4, GAP]),
+    # "right-aligned; each axis equal or 1; the larger wins"
+    completes('broadcast of 2x1 and 3', param(0, I16, 0, 9, (2, 1)) + param(1, I16, -9, 0, (3,)) + apply(ADD, 0, 1), [1, 2, -4, GAP, -6],
+              [1, 2], [-4, GAP, -6], [-3, GAP, -5, -2, GAP, -4]),
+    completes('broadcast of a number and 2x2', const(I16, 5) + param(0, I16, 0, 9, (2, 2)) + apply(MUL, 0, 1), [1, 2, GAP, 4],
+              [5], [1, 2, GAP, 4], [5, 10, GAP, 20]),
+]
+
+# -------------------------------------------------------------------- refusals
+
+PAIR = param(0, I16, -3, 5, (2,))
+LATER = const(I16, 7) + PAIR + const(I16, 7) + param(1, U8, 3, 9, (2,)) + apply(ADD, 0, 2)
+REFUSALS = [
+    # 13 "either input length is not the PARAM total"
+    refused('a value and a flag for no PARAM', 13, 0, const(I16, 5), [1]),
+    refused('a value for no PARAM', 13, 0, const(I16, 5), [1], flags=[]),
+    refused('a flag for no PARAM', 13, 0, const(I16, 5), [], flags=[1]),
+    refused('both one short', 13, 0, PAIR, [1]),
+    refused('both one long', 13, 0, PAIR, [1, 1, 1]),
+    refused('values one short', 13, 0, PAIR, [1], flags=[1, 1]),
+    refused('values one long', 13, 0, PAIR, [1, 1, 1], flags=[1, 1]),
+    refused('flags one short', 13, 0, PAIR, [1, 1], flags=[1]),
+    refused('flags one long', 13, 0, PAIR, [1, 1], flags=[1, 1, 1]),
+    refused('the inputs of one PARAM of two', 13, 0, LATER, [1, 1]),
+    # 14 "a buffer written to is too short"
+    refused('values room one short', 14, 0, PAIR, [1, 1], rooms=(1, 2)),
+    refused('flags room one short', 14, 0, PAIR, [1, 1], rooms=(2, 1)),
+    refused('no rooms', 14, 0, PAIR, [1, 1], rooms=(0, 0)),
+    refused('rooms for the output alone', 14, 0, PAIR + move(FLIP, 0, (1,)), [1, 1], rooms=(2, 2)),
+    refused('flags room one short of all nodes', 14, 0, PAIR + move(FLIP, 0, (1,)), [1, 1], rooms=(9, 3)),
+    # 15 "flag neither 0 nor 1", 16 "known number outside limits", both at their position among all inputs
+    *(refused(f'flag {flag}', 15, 1, PAIR, [1, (1, flag)]) for flag in (2, 3, 127, 128, 129, 254, 255)),
+    *(refused(f'number {value}', 16, 1, PAIR, [1, value]) for value in (-4, 6, 2 ** 32, -2 ** 32, -BIG, BIG - 1)),
+    completes('numbers at their limits', PAIR, [-3, 5], [-3, 5]),
+    refused('flag 2 in the second PARAM', 15, 2, LATER, [1, 1, (3, 2), 3]),
+    refused('number within the limits of another PARAM', 16, 3, LATER, [1, 1, 3, 2]),
+    refused('number within its type', 16, 2, LATER, [1, 1, 10, 3]),
+    # "15 and 16 at the first bad position, 15 before 16"
+    refused('flag and number at one position', 15, 0, PAIR, [(6, 2), 1]),
+    refused('number before flag', 16, 0, PAIR, [6, (1, 2)]),
+    refused('flag before number', 15, 0, PAIR, [(1, 2), 6]),
+    refused('two flags', 15, 0, PAIR, [(1, 2), (1, 255)]),
+    refused('two numbers', 16, 0, PAIR, [6, -4]),
+    refused('a number after a gap over garbage', 16, 1, PAIR, [GAP, 6]),
+    # "Writing results before 15 and 16 have been tested at every position." is a slip
+    refused('the last flag of two PARAMs', 15, 3, LATER, [1, 1, 3, (3, 255)]),
+    # "Order: .. 12 ..; then 13, 14; then 15 and 16"
+    refused('13 before 14', 13, 0, PAIR, [1], rooms=(0, 0)),
+    refused('13 before 15', 13, 0, PAIR, [(1, 2)]),
+    refused('13 before 16', 13, 0, PAIR, [6, 6, 6]),
+    refused('14 before 15', 14, 0, PAIR, [(1, 2), 1], rooms=(2, 1)),
+    refused('14 before 16', 14, 0, PAIR, [6, 1], rooms=(1, 2)),
+    refused('1 before 13', 1, 0, PAIR[:16], [1, 1, 1]),
+    refused('2 before 13', 2, 1, PAIR + node(21), [1], rooms=(0, 0)),
+    refused('11 before 15', 11, 1, PAIR + const(BOOL, 2), [(1, 2), 1]),
+    refused('10 of a divisor that the input would not have', 10, 1, PAIR + apply(IDIV, 0, 0), [1, 1]),
+    refused('12 before 13', 12, 0, large(*[(LARGE,)] * 4) + const(BOOL, 1), []),
+    refused('no words', 1, 0, [], []),
+]
+
+EXAMPLES = [*NUMBERS, *GAPS, *MOVEMENTS, *REFUSALS]
