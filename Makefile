@@ -36,6 +36,12 @@ build/linked: tests/boundary/linked.c $(HEADER) $(ARCHIVE)
 build/bench: bench/bench.c bench/plain.c bench/plain.h $(HEADER) $(ARCHIVE)
 	$(CC) $(CFLAGS) -O3 -Iinclude -o $@ bench/bench.c bench/plain.c $(ARCHIVE)
 
+build/bench_run: bench/run.c bench/join.c bench/plans.c bench/plain_run.c bench/join.h bench/plans.h bench/plain_run.h $(HEADER) $(ARCHIVE)
+	$(CC) $(CFLAGS) -O3 -Iinclude -o $@ $(filter %.c,$^) $(ARCHIVE) -lm
+
+build/join.plan: build/bench_run
+	build/bench_run write $@
+
 test:
 	@tests/run
 
@@ -45,8 +51,12 @@ linked: build/linked
 demo:
 	@echo "demo: nothing to show yet; it comes with the host program (issue 6)"
 
-bench: build/bench
+# numpy is Debian's python3-numpy, which the system's own Python sees.
+bench: build/bench build/bench_run build/join.plan $(SHARED)
 	@build/bench
+	@echo
+	@build/bench_run
+	@/usr/bin/python3 bench/numpy_join.py build/join.plan $(SHARED)
 
 clean:
 	rm -rf build target

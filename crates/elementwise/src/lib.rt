@@ -330,6 +330,30 @@ fn both_flags(
     row_flags(values, flags, 9, n, p, a, q, b, u, d, to);
 }
 
+// The flags of a row of a WHERE.
+fn where_flags(
+    values: &[i64],
+    flags: &mut [u8],
+    n: usize,
+    p: usize,
+    a: Stride,
+    q: usize,
+    b: Stride,
+    u: usize,
+    d: Stride,
+    to: usize,
+)
+    requires { ⌜ (p + span n a < to) × (q + span n b < to) × (u + span n d < to) × (to + n ≤ length (now values)) × (to + n ≤ length (now flags)) ⌝ }
+    ensures { λ _. ⌜ now (flags .exit) ≡ store (now (flags .entry)) to n (λ (j : ℕ). three (mixFlag 18) (now (values .entry)) (now (flags .entry)) (p + step n a j) (q + step n b j) (u + step n d j)) ⌝ }
+{
+    let one = Stride { up: 1, down: 0 };
+    if same_strides(a, b, d, 1, 1) {
+        row_flags(values, flags, 18, n, p, one, q, one, u, one, to);
+        return;
+    }
+    row_flags(values, flags, 18, n, p, a, q, b, u, d, to);
+}
+
 // The flags of a row.
 fn mix_row_flags(
     values: &[i64],
@@ -351,7 +375,7 @@ fn mix_row_flags(
         both_flags(values, flags, op, n, p, a, q, b, u, d, to);
         return;
     }
-    row_flags(values, flags, 18, n, p, a, q, b, u, d, to);
+    where_flags(values, flags, n, p, a, q, b, u, d, to);
 }
 
 // The numbers of every row of three views.
