@@ -17,7 +17,8 @@
 extern "C" {
 #endif
 
-/* number: 0 accepted, else the refusal; place: the byte or the node of the refusal, 0 where none is named; count: what the call counts, 0 on a refusal. */
+/* number: 0 accepted, else the refusal; place: the byte, the node or the input position of the refusal, 0 where none is named; count: what the call
+ * counts, 0 on a refusal. */
 typedef struct {
     uint64_t number, place, count;
 } lup_answer;
