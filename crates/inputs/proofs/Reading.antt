@@ -1,8 +1,9 @@
 -- Signed numbers as the code reads them, by their bits: what was found of the number read holds of the number.
 use Prim.Native.Nat.{ℕ}
 use mathlib.Core.Path.{_≡_}
-use mathlib.Core.Bool.{Bool, _&&_}
+use mathlib.Core.Bool.{Bool, _&&_, _||_}
 use mathlib.Core.List.{List}
+use lib.Dec.{eqb, leb}
 use lib.IntN.{ℤ}
 use lib.Signed.{leZ}
 use mir.Syntax.{w64}
@@ -19,6 +20,12 @@ use Rattle.inputs.specs.Nodes.{testPart}
 pub inside-read : {t : Bool} (value low high : ℤ) → SFits w64 value → SFits w64 low → SFits w64 high
     → (leZ (R low) (R value) && leZ (R value) (R high)) ≡ t → (leZ low value && leZ value high) ≡ t
 inside-read value low high v l h e = rw (R-is v, R-is l, R-is h) at e
+
+-- the same beside the tests of the flag
+pub good-read : {t : Bool} (flag : ℕ) (value low high : ℤ) → SFits w64 value → SFits w64 low → SFits w64 high
+    → (leb flag 1 && (eqb flag 0 || (leZ (R low) (R value) && leZ (R value) (R high)))) ≡ t
+    → (leb flag 1 && (eqb flag 0 || (leZ low value && leZ value high))) ≡ t
+good-read flag value low high v l h e = rw (R-is v, R-is l, R-is h) at e
 
 -- the number at a position, tested and as a cell
 module _ (value : ℤ) (flag : ℕ) (v : SFits w64 value) where

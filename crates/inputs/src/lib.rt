@@ -11,6 +11,7 @@ ghost use Rattle.laws.specs.Store.{store};
 ghost use Rattle.plan.specs.Types.{between};
 ghost use Rattle.shapes.specs.Shown.{shown};
 ghost use Rattle.verifier.specs.Check.{totalOf};
+ghost use Rattle.plan.specs.Answers.{accepted};
 ghost use Rattle.runner.specs.Inputs.{inputStart, inputLimits, inputCell, testInput, testInputs};
 ghost use Rattle.runner.specs.Run.{valueOf};
 ghost use Rattle.inputs.specs.Nodes.{nodesOf, Limited, testPart};
@@ -83,8 +84,31 @@ fn fault(flag: u8, value: i64, low: i64, high: i64) -> u64
     16
 }
 
-// The first bad one of n positions of one PARAM.
-fn scan_param(values: &[i64], flags: &[u8], from: usize, n: usize, low: i64, high: i64) -> Finding
+// Nothing is wrong at one position, told without a branch. The number under a gap decides nothing.
+fn good(flag: u8, value: i64, low: i64, high: i64) -> bool
+    ensures { λ r. ⌜ ((p : ℕ) → r ≡ true → testInput (between low high) value flag p ≡ accepted tt) ⌝ }
+{
+    (flag <= 1) & ((flag == 0) | ((low <= value) & (value <= high)))
+}
+
+// Nothing is wrong at n positions of one PARAM, told without a branch at any of them.
+fn all_good(values: &[i64], flags: &[u8], from: usize, n: usize, low: i64, high: i64) -> bool
+    requires { ⌜ (from + n ≤ length (now values)) × (from + n ≤ length (now flags)) ⌝ }
+    ensures { λ r. ⌜ (r ≡ true → testPart (between low high) (now (values .entry)) (now (flags .entry)) from n ≡ accepted tt) ⌝ }
+{
+    let mut all = true;
+    let mut i = 0;
+    while i < n {
+        let p = from + i;
+        let ok = good(flags[p], values[p], low, high);
+        all = all & ok;
+        i += 1;
+    }
+    all
+}
+
+// The first bad one of n positions of one PARAM, sought one by one.
+fn first_fault(values: &[i64], flags: &[u8], from: usize, n: usize, low: i64, high: i64) -> Finding
     requires { ⌜ (from + n ≤ length (now values)) × (from + n ≤ length (now flags)) ⌝ }
     ensures { λ r. ⌜ (testPart (between low high) (now (values .entry)) (now (flags .entry)) from n ≡ scanned (r .number) (r .place)) × (among (r .number) (0 ∷ 15 ∷ 16 ∷ []) ≡ true) ⌝ }
 {
@@ -104,6 +128,20 @@ fn scan_param(values: &[i64], flags: &[u8], from: usize, n: usize, low: i64, hig
         number: 0,
         place: 0,
     }
+}
+
+// The first bad one of n positions of one PARAM: sought only where not all are good.
+fn scan_param(values: &[i64], flags: &[u8], from: usize, n: usize, low: i64, high: i64) -> Finding
+    requires { ⌜ (from + n ≤ length (now values)) × (from + n ≤ length (now flags)) ⌝ }
+    ensures { λ r. ⌜ (testPart (between low high) (now (values .entry)) (now (flags .entry)) from n ≡ scanned (r .number) (r .place)) × (among (r .number) (0 ∷ 15 ∷ 16 ∷ []) ≡ true) ⌝ }
+{
+    if all_good(values, flags, from, n, low, high) {
+        return Finding {
+            number: 0,
+            place: 0,
+        };
+    }
+    first_fault(values, flags, from, n, low, high)
 }
 
 // The first bad position of the whole input.
