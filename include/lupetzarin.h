@@ -40,7 +40,7 @@ lup_answer lup_check(const int64_t *table, size_t nwords, int64_t *derived, size
 uint64_t lup_unpack_check(const uint8_t *bytes, size_t nbytes);
 
 /* Runs a plan. values and flags are the input: the elements of all PARAM nodes end to end in node order, flags 1 for a known number and 0 for
- * a gap, whose value is never looked at. Writes every element of every node, end to end in node order, a gap as value 0 and flag 0; places past
+ * a gap, whose value has no effect. Writes every element of every node, end to end in node order, a gap as value 0 and flag 0; places past
  * them stay as they were. count: the gaps of the last node, the output. Refusals, in order: those of lup_check but its 14; 13, a length of the
  * input is not the number of all PARAM elements; 14, a result buffer is shorter than all elements of all nodes; 15 or 16 at the first bad
  * position of the input (place: that position): a flag neither 0 nor 1; a known number outside its PARAM's low and high.

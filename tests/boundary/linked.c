@@ -89,7 +89,8 @@ static void check_examples(void) {
 
 /* PARAM of two i16 numbers in -9..9, padded to four at 1, and the sum of all four. */
 static void small_plan(int64_t *table) {
-    static const int64_t param[13] = {1, 0, 0, 0, 2, 0, 1, -9, 9, 2}, pad[14] = {6, 0, 0, 0, 0, 0, 0, 0, 0, 4, 0, 0, 0, 1}, sum[10] = {19, 1, 0, 0, 0, 0, 0, 0, 0, 1};
+    static const int64_t param[] = {1, 0, 0, 0, 2, 0, 1, -9, 9, 2}, pad[] = {6, 0, 0, 0, 0, 0, 0, 0, 0, 4, 0, 0, 0, 1};
+    static const int64_t sum[] = {19, 1, 0, 0, 0, 0, 0, 0, 0, 1};
 
     memset(table, 0, 3 * 17 * sizeof *table);
     memcpy(table, param, sizeof param);
@@ -109,8 +110,8 @@ static int flags_stay(const uint8_t *flags, size_t from) {
 }
 
 static void run_examples(void) {
-    static const int64_t inputs[] = {7, INT64_MIN}, wanted[] = {7, 0, 0, 7, 0, 0, 0};
-    static const uint8_t known[] = {1, 0}, wanted_flags[] = {1, 0, 0, 1, 0, 0, 0}, bad[] = {1, 2};
+    static const int64_t inputs[] = {7, INT64_MIN}, over[] = {9, 10}, wanted[] = {7, 0, 0, 7, 0, 0, 0};
+    static const uint8_t known[] = {1, 0}, wanted_flags[] = {1, 0, 0, 1, 0, 0, 0}, bad[] = {1, 2}, both[] = {1, 1};
     int64_t table[3 * 17], values[ROOM];
     uint8_t flags[ROOM];
 
@@ -120,7 +121,7 @@ static void run_examples(void) {
     expect(answers(lup_run(table, 3 * 17, inputs, 2, known, 2, values, ROOM, flags, ROOM), 0, 0, 1), "a run: one gap in the output");
     expect(!memcmp(values, wanted, sizeof wanted) && stays(values, 7), "a run: 7 gap, gap 7 gap gap, gap; the values after them as they were");
     expect(!memcmp(flags, wanted_flags, sizeof wanted_flags) && flags_stay(flags, 7), "a run: the flags, and those after them as they were");
-    expect(answers(lup_run(table, 2 * 17, inputs, 2, known, 2, values, 6, flags, 6), 0, 0, 3), "without the sum, in exact rooms: three gaps in the output");
+    expect(answers(lup_run(table, 2 * 17, inputs, 2, known, 2, values, 6, flags, 6), 0, 0, 3), "without the sum, exact rooms: three gaps");
 
     fill(values);
     fill_flags(flags);
@@ -129,7 +130,7 @@ static void run_examples(void) {
     expect(answers(lup_run(table, 17, inputs, 2, known, 2, values, 1, flags, ROOM), 14, 0, 0), "room for one value of two: refused 14");
     expect(answers(lup_run(table, 17, inputs, 2, known, 2, values, ROOM, flags, 1), 14, 0, 0), "room for one flag of two: refused 14");
     expect(answers(lup_run(table, 17, inputs, 2, bad, 2, values, ROOM, flags, ROOM), 15, 1, 0), "flag 2: refused 15 at 1");
-    expect(answers(lup_run(table, 17, (const int64_t[]){9, 10}, 2, (const uint8_t[]){1, 1}, 2, values, ROOM, flags, ROOM), 16, 1, 0), "10 over 9: refused 16 at 1");
+    expect(answers(lup_run(table, 17, over, 2, both, 2, values, ROOM, flags, ROOM), 16, 1, 0), "10 over 9: refused 16 at 1");
     expect(answers(lup_run(NULL, 0, NULL, 0, NULL, 0, NULL, 0, NULL, 0), 1, 0, 0), "no table: refused 1");
     expect(stays(values, 0) && flags_stay(flags, 0), "refused: both buffers as they were");
 }

@@ -8,7 +8,7 @@ from random import Random
 import cases
 import model
 from cases import BIG, apply, const, move, node, param, reduce_node
-from model import (ADD, AND, CAST, CMPLT, CMPNE, EXPAND, FLIP, IDIV, LOAD, MAX, MOD, MUL, OR, PAD, PARAM, PERMUTE, REDUCE, RESHAPE, SHRINK, WHERE)
+from model import (ADD, AND, CAST, CMPLT, CMPNE, EXPAND, FLIP, IDIV, LOAD, MAX, MOD, MUL, OR, PAD, PARAM, PERMUTE, RESHAPE, SHRINK, WHERE)
 
 I16, I32 = 2, 3
 WIDE = 1000
@@ -208,8 +208,9 @@ def number_runs():
         yield Run(f'operation {op} at the ends', *each_with_each(op, I32, ends, [1, 2, 3, 65536, high - 1, high, None]))
         yield Run(f'operation {op} at the ends', *each_with_each(op, I32, ends[1:], [low, low + 1, -65536, -3, -2, -1, None]))
         yield Run(f'operation {op} of u8', *each_with_each(op, 1, [0, 1, 127, 128, 255, None], [1, 2, 127, 128, 255, None]))
-    for op, dtype, numbers in ((ADD, I16, [-16384, -1, 0, 1, 16383, None]), (ADD, I32, [-2 ** 30, -1, 0, 2 ** 30 - 1, None]), (ADD, 1, [0, 1, 127, None]),
-                               (MUL, I32, [-46340, -2, -1, 0, 1, 46340, None]), (MUL, 1, [0, 1, 15, None]), (MAX, I32, [low, -1, 0, high, None]),
+    for op, dtype, numbers in ((ADD, I16, [-16384, -1, 0, 1, 16383, None]), (ADD, I32, [-2 ** 30, -1, 0, 2 ** 30 - 1, None]),
+                               (ADD, 1, [0, 1, 127, None]), (MUL, I32, [-46340, -2, -1, 0, 1, 46340, None]), (MUL, 1, [0, 1, 15, None]),
+                               (MAX, I32, [low, -1, 0, high, None]),
                                (CMPLT, I32, [low, low + 1, -1, 0, 1, high, None]), (CMPNE, I32, [low, -1, 0, 1, high, None]),
                                (CMPLT, 1, [0, 1, 254, 255, None]), (CMPNE, 0, [0, 1, None]), (AND, 0, [0, 1, None]), (OR, 0, [0, 1, None])):
         yield Run(f'operation {op} each with each', *each_with_each(op, dtype, numbers, numbers))

@@ -51,9 +51,11 @@ NUMBERS = [
     *(binary('IDIV', IDIV, I16, (SIGNED, (1, 9) if b > 0 else (-9, -1)), [a, b], quotient)
       for a, b, quotient in ((7, 1, 7), (-7, 1, -7), (7, -1, -7), (-7, -1, 7), (0, 1, 0), (0, -1, 0))),
     *(binary('IDIV', IDIV, I16, (SIGNED, (2, 9) if b > 0 else (-9, -2)), [a, b], quotient)
-      for a, b, quotient in ((-7, 2, -4), (7, 2, 3), (7, -2, -4), (-7, -2, 3), (-6, 2, -3), (6, -2, -3), (-1, 3, -1), (1, -3, -1), (-1, -3, 0), (1, 3, 0))),
+      for a, b, quotient in ((-7, 2, -4), (7, 2, 3), (7, -2, -4), (-7, -2, 3), (-6, 2, -3), (6, -2, -3), (-1, 3, -1), (1, -3, -1),
+                             (-1, -3, 0), (1, 3, 0))),
     *(binary('MOD', MOD, I16, (SIGNED, (2, 9) if b > 0 else (-9, -2)), [a, b], rest)
-      for a, b, rest in ((-7, 2, 1), (7, 2, 1), (7, -2, -1), (-7, -2, -1), (-6, 2, 0), (6, -2, 0), (-1, 3, 2), (1, -3, -2), (-1, -3, -1), (1, 3, 1), (0, 5, 0))),
+      for a, b, rest in ((-7, 2, 1), (7, 2, 1), (7, -2, -1), (-7, -2, -1), (-6, 2, 0), (6, -2, 0), (-1, 3, 2), (1, -3, -2),
+                         (-1, -3, -1), (1, 3, 1), (0, 5, 0))),
     binary('IDIV', IDIV, I32, ((I32_LOW, I32_HIGH), (2, I32_HIGH)), [I32_LOW, I32_HIGH], -2),
     binary('MOD', MOD, I32, ((I32_LOW, I32_HIGH), (2, I32_HIGH)), [I32_LOW, I32_HIGH], 2147483646),
     binary('IDIV', IDIV, I32, ((I32_LOW, I32_HIGH), (I32_LOW, -2)), [I32_LOW, I32_LOW], 1),
@@ -79,6 +81,7 @@ NUMBERS = [
     completes('a CONST', const(I16, -5), [], [-5]),
     completes('two CONSTs and their sum, with room left', const(I16, -5) + const(I16, 7) + apply(ADD, 0, 1), [], [-5], [7], [2], more=(3, 5)),
 ]
+CHOICE = param(0, BOOL, 0, 1, ()) + param(1, I16, 0, 9, ()) + param(2, I16, 0, 9, ()) + apply(WHERE, 0, 1, 2)
 GAPS = [
     # "A binary result is a gap if either side is": also where the other side would decide
     *(binary(name, op, dtype, limits, inputs, GAP)
@@ -89,8 +92,7 @@ GAPS = [
                                              ('OR', OR, BOOL, (TRUTH, TRUTH), 1))
       for inputs in ([known, GAP], [GAP, known], [GAP, GAP])),
     # "WHERE is a gap if the condition is one or the chosen side is."; "● WHERE 1, 4, gap: 4."
-    *(completes(f'WHERE {condition}, {second}, {third}', param(0, BOOL, 0, 1, ()) + param(1, I16, 0, 9, ()) + param(2, I16, 0, 9, ()) + apply(WHERE, 0, 1, 2),
-                [condition, second, third], [condition], [second], [third], [result])
+    *(completes(f'WHERE {condition}, {second}, {third}', CHOICE, [condition, second, third], [condition], [second], [third], [result])
       for condition, second, third, result in ((1, 4, GAP, 4), (1, GAP, 4, GAP), (0, 4, GAP, GAP), (0, GAP, 4, 4), (GAP, 4, 4, GAP), (1, 4, 5, 4),
                                                (0, 4, 5, 5), (GAP, GAP, GAP, GAP))),
     # "Treating a gap as 0 inside a sum." is a slip; "REDUCE if any element it gathers is."
@@ -109,26 +111,26 @@ GAPS = [
     # "Testing limits under a gap." is a slip
     completes('numbers outside the limits under gaps', param(0, U8, 3, 5, (4,)), [(2, 0), (6, 0), (-BIG, 0), (BIG - 1, 0)], [GAP] * 4),
 ]
+SIX = param(0, I16, 0, 5, (2, 3))
 MOVEMENTS = [
     # "● 7 9 padded to 5 at 1: gap 7 9 gap gap; flipped: gap gap 9 7 gap."
     completes('padded and flipped', param(0, I16, 0, 9, (2,)) + move(PAD, 0, (5,), (1,)) + move(FLIP, 1, (1,)), [7, 9],
               [7, 9], [GAP, 7, 9, GAP, GAP], [GAP, GAP, 9, 7, GAP]),
     # "● PERMUTE (1,0) of 2x3: element 3 is source element 4."
-    completes('PERMUTE (1,0) of 2x3', param(0, I16, 0, 5, (2, 3)) + move(PERMUTE, 0, (1, 0)), [0, 1, 2, 3, 4, GAP],
-              [0, 1, 2, 3, 4, GAP], [0, 3, 1, 4, 2, GAP]),
+    completes('PERMUTE (1,0) of 2x3', SIX + move(PERMUTE, 0, (1, 0)), [0, 1, 2, 3, 4, GAP], [0, 1, 2, 3, 4, GAP], [0, 3, 1, 4, 2, GAP]),
     # "PERMUTE: result axis k is source axis A_k.": no turn that is its own inverse
     completes('PERMUTE (2,0,1) of 1x2x3', param(0, I16, 0, 5, (1, 2, 3)) + move(PERMUTE, 0, (2, 0, 1)), [0, 1, 2, 3, 4, 5],
               [0, 1, 2, 3, 4, 5], [0, 3, 1, 4, 2, 5]),
     # "FLIP: flag 1 reverses."
-    completes('FLIP of the first axis', param(0, I16, 0, 5, (2, 3)) + move(FLIP, 0, (1, 0)), [0, 1, GAP, 3, 4, 5], [0, 1, GAP, 3, 4, 5], [3, 4, 5, 0, 1, GAP]),
-    completes('FLIP of the last axis', param(0, I16, 0, 5, (2, 3)) + move(FLIP, 0, (0, 1)), [0, 1, GAP, 3, 4, 5], [0, 1, GAP, 3, 4, 5], [GAP, 1, 0, 5, 4, 3]),
+    completes('FLIP of the first axis', SIX + move(FLIP, 0, (1, 0)), [0, 1, GAP, 3, 4, 5], [0, 1, GAP, 3, 4, 5], [3, 4, 5, 0, 1, GAP]),
+    completes('FLIP of the last axis', SIX + move(FLIP, 0, (0, 1)), [0, 1, GAP, 3, 4, 5], [0, 1, GAP, 3, 4, 5], [GAP, 1, 0, 5, 4, 3]),
     # "Elements are numbered row-major."
-    completes('RESHAPE keeps the order', param(0, I16, 0, 5, (2, 3)) + move(RESHAPE, 0, (3, 2)), [0, 1, 2, 3, GAP, 5], [0, 1, 2, 3, GAP, 5], [0, 1, 2, 3, GAP, 5]),
+    completes('RESHAPE keeps the order', SIX + move(RESHAPE, 0, (3, 2)), [0, 1, 2, 3, GAP, 5], [0, 1, 2, 3, GAP, 5], [0, 1, 2, 3, GAP, 5]),
     completes('EXPAND of the first axis', param(0, I16, 0, 5, (1, 2)) + move(EXPAND, 0, (3, 2)), [4, GAP], [4, GAP], [4, GAP, 4, GAP, 4, GAP]),
     completes('EXPAND of the last axis', param(0, I16, 0, 5, (2, 1)) + move(EXPAND, 0, (2, 3)), [4, GAP], [4, GAP], [4, 4, 4, GAP, GAP, GAP]),
     # "PAD: same rank, offset o_k + s_k ≤ s'_k. SHRINK: same rank, o_k + s'_k ≤ s_k. A is s', B is o."
     completes('PAD with o+s equal to s\'', param(0, I16, 0, 5, (1, 2)) + move(PAD, 0, (2, 3), (1, 1)), [4, 5], [4, 5], [GAP, GAP, GAP, GAP, 4, 5]),
-    completes('SHRINK with o+s\' equal to s', param(0, I16, 0, 5, (2, 3)) + move(SHRINK, 0, (1, 2), (1, 1)), [0, 1, 2, 3, 4, GAP], [0, 1, 2, 3, 4, GAP], [4, GAP]),
+    completes('SHRINK with o+s\' equal to s', SIX + move(SHRINK, 0, (1, 2), (1, 1)), [0, 1, 2, 3, 4, GAP], [0, 1, 2, 3, 4, GAP], [4, GAP]),
     # "right-aligned; each axis equal or 1; the larger wins"
     completes('broadcast of 2x1 and 3', param(0, I16, 0, 9, (2, 1)) + param(1, I16, -9, 0, (3,)) + apply(ADD, 0, 1), [1, 2, -4, GAP, -6],
               [1, 2], [-4, GAP, -6], [-3, GAP, -5, -2, GAP, -4]),

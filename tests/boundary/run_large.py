@@ -112,7 +112,8 @@ def products():
     flags = [with_gaps(SIDE, 3, 2), with_gaps(SIDE, 100, 99)]
     rows = cells((a * b for a in first for b in second), (a & b for a in flags[0] for b in flags[1]))
     table = param(0, I32, -512, 511, (SIDE, 1)) + param(1, I32, 1, SIDE, (SIDE,)) + apply(MUL, 0, 1) + apply(MUL, 1, 0)
-    return LargeRun('MUL of 1024x1 and 1024', table, first + second, flags[0] + flags[1], [cells(first, flags[0]), cells(second, flags[1]), rows, rows])
+    nodes = [cells(first, flags[0]), cells(second, flags[1]), rows, rows]
+    return LargeRun('MUL of 1024x1 and 1024', table, first + second, flags[0] + flags[1], nodes)
 
 
 def reductions():

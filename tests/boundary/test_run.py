@@ -127,7 +127,7 @@ def bad_inputs(rng, run, faults):
 
 def test_refusals(compared, rng, run, total, turn):
     """One way or two to refuse the run of an accepted plan."""
-    rooms = rng.choice(((total - 1, total), (total, total - 1), (total - 1, total + 9), (total + 9, total - 1), (rng.randrange(total), total), (total, 0)))
+    shorts = ((total - 1, total), (total, total - 1), (total - 1, total + 9), (total + 9, total - 1), (rng.randrange(total), total), (total, 0))
     way, faults = turn % 4, cases.INPUT_FAULTS[turn // 4 % len(cases.INPUT_FAULTS)]
     inputs = run.values, run.flags
     if way == 0:
@@ -136,7 +136,7 @@ def test_refusals(compared, rng, run, total, turn):
         inputs = bad_inputs(rng, run, faults)
         compared.run(f'{run.note}, {faults}', run.table, *inputs, (total + turn % 3, total + turn % 2))
     if way <= 1:
-        compared.run(run.note + ', rooms', run.table, *inputs, rooms)
+        compared.run(run.note + ', rooms', run.table, *inputs, rng.choice(shorts))
     if way == 2:
         tail = rng.choice((node(99), const(0, 2), apply(model.ADD, 0, 999), [7], const(4, 0), node(model.CONST, {3: 1})))
         compared.run(run.note + ', refused plan', run.table + tail, *inputs, (total + 1, total + 1))
