@@ -10,7 +10,7 @@ use Rattle.plan.specs.declared.Answer.{Answer}
 use Rattle.plan.specs.Words.{node, element}
 use Rattle.plan.specs.Answers.{Outcome}
 use Rattle.codec.specs.Plans.{Unpacked, unpack, unpackAnswer, tableAfter}
-use Rattle.verifier.specs.Rules.{Derived}
+use Rattle.rules.specs.Rules.{Derived}
 use Rattle.verifier.specs.Check.{check, checkAnswer, derivedAfter, unpackCheck, codeOf}
 use Rattle.verifier.specs.Listing.{listing}
 use Rattle.cells.specs.Cells.{Field}

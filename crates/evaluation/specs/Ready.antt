@@ -9,7 +9,7 @@ use Rattle.laws.specs.Numbering.{count}
 use Rattle.plan.specs.declared.Node.{Node}
 use Rattle.plan.specs.Operations.{PARAM, operationCount, uses}
 use Rattle.shapes.specs.Rules.{elementLimit, extent, shapesAgree, resultExtents}
-use Rattle.verifier.specs.Rules.{rowsRight}
+use Rattle.rules.specs.Rules.{rowsRight}
 use Rattle.cells.specs.Nodes.{Operands}
 use Rattle.views.specs.Numbers.{SmallBefore}
 use Rattle.evaluation.specs.Standing.{Source, Given, Room}

@@ -9,7 +9,7 @@ use lib.Seq.{take-all, take-suc, drop-append-seam, getD-take, getD-drop, length-
 use Rattle.laws.specs.Lists.{occurrences, sum, concat}
 use Rattle.laws.proofs.Lists.{concat-at}
 use Rattle.plan.specs.Answers.{written}
-use Rattle.verifier.specs.Rules.{Derived, noSource}
+use Rattle.rules.specs.Rules.{Derived, noSource}
 use Rattle.verifier.specs.Check.{countOf, totalOf}
 use Rattle.cells.specs.Cells.{Cell, known, gap, Field}
 use Rattle.runner.specs.Run.{noField, flagOf, gapCount, allCells}

@@ -20,7 +20,7 @@ use Rattle.plan.specs.Answers.{Outcome, accepted}
 use Rattle.plan.proofs.ByOperation.{divides-uses}
 use Rattle.plan.proofs.Decoding.{word-at}
 use Rattle.bounds.proofs.Sound.{holding}
-use Rattle.verifier.specs.Rules.{Derived}
+use Rattle.rules.specs.Rules.{Derived}
 use Rattle.verifier.specs.Check.{lengthRight}
 use Rattle.verifier.specs.Meets.{NodesMeet, PlanMeets}
 use Rattle.verifier.proofs.Accepted.{accepted-meets}

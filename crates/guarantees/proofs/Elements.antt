@@ -17,7 +17,7 @@ use Rattle.shapes.specs.Rules.{reduced, resultExtents}
 use Rattle.shapes.proofs.Extents.{Extents, no-extents}
 use Rattle.shapes.proofs.Broadcast.{Spreads, spread-below, binary-spreads, where-spreads}
 use Rattle.shapes.proofs.Sources.{source-below, gathered-some, gathered-below}
-use Rattle.verifier.specs.Rules.{Derived, noSource, sourceOf}
+use Rattle.rules.specs.Rules.{Derived, noSource, sourceOf}
 use Rattle.verifier.specs.Check.{first, second, third, countOf, verdict}
 use Rattle.verifier.specs.Meets.{NodeMeets, NodesMeet, PlanMeets}
 use Rattle.verifier.proofs.Accepted.{accepted-meets}

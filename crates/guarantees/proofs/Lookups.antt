@@ -21,7 +21,7 @@ use Rattle.plan.specs.Answers.{Outcome, accepted}
 use Rattle.plan.proofs.ByOperation.{_then_, for-group, followed-uses}
 use Rattle.shapes.specs.Sources.{sourceElement, Below}
 use Rattle.shapes.proofs.Sources.{source-below}
-use Rattle.verifier.specs.Rules.{Derived, noSource, sourceOf}
+use Rattle.rules.specs.Rules.{Derived, noSource, sourceOf}
 use Rattle.verifier.specs.Check.{verdict, first, countOf}
 use Rattle.verifier.specs.Meets.{NodeMeets, NodesMeet, PlanMeets}
 use Rattle.verifier.proofs.Accepted.{accepted-meets}

@@ -15,7 +15,7 @@ use Rattle.plan.specs.Answers.{Refusal, Outcome, accepted, refused, Rule, rule,
 use Rattle.codec.specs.Plans.{unpack}
 use Rattle.codec.proofs.Bounds.{Holds, holds-then}
 use Rattle.codec.proofs.Prefix.{PlacedTo, Whole, planLimit, plan-ends, plan-same}
-use Rattle.verifier.specs.Rules.{Derived}
+use Rattle.rules.specs.Rules.{Derived}
 use Rattle.verifier.specs.Check.{nodeRules, lengthRight, verdict, Checked, unpackCheck}
 use Rattle.verifier.specs.Listing.{textOf, readLimit, listing}
 use Rattle.verifier.specs.Meets.{Refuses, bad-length, bad-node, too-many}

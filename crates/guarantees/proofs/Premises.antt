@@ -11,7 +11,7 @@ use Rattle.laws.proofs.Parts.{arithℤ}
 use Rattle.plan.specs.declared.ElementNumber.{ElementNumber}
 use Rattle.plan.specs.Operations.{PARAM, IDIV}
 use Rattle.plan.specs.Types.{between}
-use Rattle.verifier.specs.Rules.{Derived}
+use Rattle.rules.specs.Rules.{Derived}
 use Rattle.runner.specs.Inputs.{inputStart}
 use Rattle.guarantees.specs.Questions.{i16, param, constant, binary}
 use Rattle.guarantees.specs.Demand3.{Lent, word, elements, Proper}

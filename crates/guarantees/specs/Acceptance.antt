@@ -3,7 +3,7 @@ use mathlib.Core.Path.{_≡_}
 use mathlib.Core.List.{List}
 use lib.IntN.{ℤ}
 use Rattle.plan.specs.Answers.{Refusal, accepted, refused}
-use Rattle.verifier.specs.Rules.{Derived}
+use Rattle.rules.specs.Rules.{Derived}
 use Rattle.verifier.specs.Check.{verdict}
 use Rattle.verifier.specs.Meets.{PlanMeets, Refuses}
 

@@ -14,7 +14,7 @@ use Rattle.plan.specs.Operations.{PARAM, IDIV, MOD}
 use Rattle.plan.specs.Types.{rangeOf}
 use Rattle.plan.specs.Words.{element}
 use Rattle.plan.specs.Answers.{Outcome, accepted}
-use Rattle.verifier.specs.Rules.{Derived, noSource}
+use Rattle.rules.specs.Rules.{Derived, noSource}
 use Rattle.verifier.specs.Check.{verdict, countOf, totalOf}
 use Rattle.cells.specs.Cells.{Cell, known, gap, Field, cellAt}
 use Rattle.runner.specs.Inputs.{inputStart, inputTotal}

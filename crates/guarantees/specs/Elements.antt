@@ -11,7 +11,7 @@ use Rattle.plan.specs.Operations.{WHERE, REDUCE, followed, binaries}
 use Rattle.plan.specs.Words.{nodeAt, listOf, element}
 use Rattle.plan.specs.Answers.{accepted}
 use Rattle.shapes.specs.Sources.{sourceElement, Below, broadcastSource, gathered}
-use Rattle.verifier.specs.Rules.{Derived, noSource}
+use Rattle.rules.specs.Rules.{Derived, noSource}
 use Rattle.verifier.specs.Check.{first, second, third, countOf, verdict}
 use Rattle.cells.specs.Cells.{Cell}
 use Rattle.runner.specs.Run.{noField, fieldsTo}

@@ -14,7 +14,7 @@ use Rattle.plan.specs.Operations.{PAD, followed}
 use Rattle.plan.specs.Words.{node, element, nodeAt}
 use Rattle.plan.specs.Answers.{Outcome, accepted}
 use Rattle.shapes.specs.Sources.{sourceElement}
-use Rattle.verifier.specs.Rules.{Derived}
+use Rattle.rules.specs.Rules.{Derived}
 use Rattle.verifier.specs.Check.{verdict, countOf}
 use Rattle.cells.specs.Cells.{Cell, gap, Field, cellAt}
 use Rattle.runner.specs.Run.{noField, run}

@@ -8,7 +8,7 @@ use Rattle.plan.specs.Operations.{CONST, PARAM, CAST, WHERE, REDUCE, LOAD}
 use Rattle.plan.specs.Words.{node, element}
 use Rattle.plan.specs.Answers.{Refusal, Outcome, accepted, refused}
 use Rattle.codec.specs.Plans.{Unpacked, unpack}
-use Rattle.verifier.specs.Rules.{Derived, noSource}
+use Rattle.rules.specs.Rules.{Derived, noSource}
 use Rattle.verifier.specs.Check.{verdict, check, Checked, unpackCheck, codeOf}
 use Rattle.verifier.specs.Listing.{listing}
 use Rattle.cells.specs.Cells.{Cell, known, gap, Field}

@@ -23,10 +23,10 @@ use Rattle.plan.specs.Types.{between}
 use Rattle.plan.specs.Words.{nodeAt, ifParam, overParams}
 use Rattle.shapes.specs.Shown.{shown, capped}
 use Rattle.shaping.proofs.Counts.{capped-within}
-use Rattle.verifier.specs.declared.Record.{Record}
-use Rattle.verifier.specs.Rules.{Derived, noSource}
+use Rattle.rules.specs.declared.Record.{Record}
+use Rattle.rules.specs.Rules.{Derived, noSource}
 use Rattle.verifier.specs.Check.{countOf, totalOf}
-use Rattle.verifier.specs.Code.{viewOf}
+use Rattle.rules.specs.Code.{viewOf}
 use Rattle.runner.specs.Inputs.{inputStart, declared, inputLimits}
 use Rattle.runner.proofs.Inputs.{limits-length, limits-at}
 use Rattle.inputs.specs.Nodes.{nodesOf, Limited}

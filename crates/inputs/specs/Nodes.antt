@@ -6,10 +6,10 @@ use lib.ListN.{getD, take}
 use Rattle.plan.specs.declared.Interval.{Interval}
 use Rattle.plan.specs.Answers.{Outcome, inTurn}
 use Rattle.shapes.specs.Rules.{elementLimit}
-use Rattle.verifier.specs.declared.Record.{Record}
-use Rattle.verifier.specs.Rules.{Derived, noSource}
+use Rattle.rules.specs.declared.Record.{Record}
+use Rattle.rules.specs.Rules.{Derived, noSource}
 use Rattle.verifier.specs.Check.{countOf}
-use Rattle.verifier.specs.Code.{viewOf}
+use Rattle.rules.specs.Code.{viewOf}
 use Rattle.runner.specs.Inputs.{testInput}
 
 -- what is derived of the first `count` nodes

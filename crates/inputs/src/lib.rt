@@ -16,7 +16,7 @@ ghost use Rattle.runner.specs.Inputs.{inputStart, inputLimits, inputCell, testI
 ghost use Rattle.runner.specs.Run.{valueOf};
 ghost use Rattle.inputs.specs.Nodes.{nodesOf, Limited, testPart};
 ghost use Rattle.inputs.specs.Scanning.{cellIn, gapsFrom, scanned};
-use verifier::Record;
+use rules::Record;
 
 // What a scan found: 0 where all positions are good, else the number of the refusal and the position.
 pub struct Finding {

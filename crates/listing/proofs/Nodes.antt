@@ -14,11 +14,11 @@ use Rattle.plan.specs.declared.Interval.{Interval}
 use Rattle.plan.specs.Words.{nodeAt}
 use Rattle.plan.specs.Answers.{accepted}
 use Rattle.bounds.specs.Narrow.{Held}
-use Rattle.verifier.specs.declared.Record.{Record}
-use Rattle.verifier.specs.Rules.{Derived, noSource}
-use Rattle.verifier.specs.Code.{viewOf}
+use Rattle.rules.specs.declared.Record.{Record}
+use Rattle.rules.specs.Rules.{Derived, noSource}
+use Rattle.rules.specs.Code.{viewOf}
 use Rattle.verifier.specs.Listing.{decimal, signed, shapeText, nodeLine, textOf, header, acceptedWord, space, lineFeed}
-use Rattle.checking.proofs.Writing.{low-is, high-is}
+use Rattle.verifier.proofs.Writing.{low-is, high-is}
 use Rattle.listing.specs.Text.{Writes, linesOf}
 use Rattle.listing.proofs.Pieces.{then, within, said, nothing}
 

@@ -13,18 +13,18 @@ use Rattle.codec.specs.declared.Plan.{Plan}
 use Rattle.codec.specs.declared.Plan.the-variants.{Nodes, Stop}
 use Rattle.codec.specs.Plans.{unpack}
 use Rattle.codec.specs.Steps.{planOf, Stands}
-use Rattle.verifier.specs.declared.Verdict.{Verdict}
+use Rattle.verifier.specs.declared.Derivation.{Derivation}
 use Rattle.verifier.specs.Check.{verdict, unpackCheck}
-use Rattle.verifier.specs.Code.{recordsOf}
+use Rattle.verifier.specs.Verdicts.{recordsOf}
 use Rattle.verifier.specs.Listing.{textOf, listing}
 use Rattle.verifier.proofs.Accepted.{accepted-meets}
-use Rattle.checking.specs.Verdicts.{Ends}
-use Rattle.checking.proofs.Ending.{counted}
-use Rattle.checking.proofs.Packed.{stop-is, words-are}
+use Rattle.verifier.specs.Verdicts.{Ends}
+use Rattle.verifier.proofs.Ending.{counted}
+use Rattle.verifier.proofs.Packed.{stop-is, words-are}
 use Rattle.listing.specs.Text.{Writes, checkedOf, textWith}
 
 -- a table that is refused, and one that is accepted
-module _ (t : List ℤ) {v : Verdict} (d : Ends t v) where
+module _ (t : List ℤ) {v : Derivation} (d : Ends t v) where
   pub refused-text : (v .number ≡ 0 → ⊥) → textOf (refuse (v .number) (v .place)) ≡ textOf (checkedOf t)
   refused-text z = rw (d .is-verdict, ne-eqb (v .number) 0 z) refl
 

@@ -10,7 +10,7 @@ use lib.Seq.{sets}
 use Rattle.laws.specs.Lists.{tab, concat}
 use Rattle.plan.specs.Words.{nodeAt}
 use Rattle.plan.specs.Answers.{Outcome, accepted, andThen}
-use Rattle.verifier.specs.Rules.{Derived, noSource}
+use Rattle.rules.specs.Rules.{Derived, noSource}
 use Rattle.verifier.specs.Check.{Checked, verdict}
 use Rattle.verifier.specs.Listing.{nodeLine, listing}
 

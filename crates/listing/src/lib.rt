@@ -8,13 +8,13 @@ ghost use Rattle.bounds.specs.Narrow.{wideOf};
 ghost use Rattle.plan.specs.Answers.{accepted, refuse};
 ghost use Rattle.shapes.specs.Shown.{shown};
 ghost use Rattle.verifier.specs.Check.{unpackCheck};
-ghost use Rattle.verifier.specs.Code.{viewOf};
+ghost use Rattle.rules.specs.Code.{viewOf};
 ghost use Rattle.verifier.specs.Listing.{digits, decimal, signed, shapeText, nodeLine, textOf, space};
 ghost use Rattle.listing.specs.Text.{Writes, linesOf, checkedOf, textRoom, textWith};
 use bounds::Bounds;
 use codec::Plan;
 use shapes::Shape;
-use verifier::Record;
+use rules::Record;
 
 // One byte.
 fn put(b: u8, text: &mut [u8], at: usize) -> usize
@@ -192,7 +192,7 @@ fn checked(table: &[i64], text: &mut [u8]) -> usize
     requires { ⌜ textRoom ≤ length (now text) ⌝ }
     ensures { λ r. ⌜ Writes (textOf (checkedOf (now (table .entry)))) textRoom (now (text .entry)) 0 (now (text .exit)) r ⌝ }
 {
-    let r = checking::verdict(table);
+    let r = verifier::verdict(table);
     if r.number != 0 {
         return refusal(r.number as u64, r.place as u64, text);
     }

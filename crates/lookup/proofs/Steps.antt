@@ -16,7 +16,7 @@ use Rattle.plan.specs.Words.{nodeAt}
 use Rattle.plan.specs.Answers.{Outcome, accepted}
 use Rattle.plan.proofs.ByOperation.{_then_, for-group}
 use Rattle.shapes.specs.Sources.{sourceRules, sourceElement}
-use Rattle.verifier.specs.Rules.{Derived, noSource}
+use Rattle.rules.specs.Rules.{Derived, noSource}
 use Rattle.verifier.specs.Check.{verdict, countOf}
 use Rattle.lookup.specs.declared.Found.{Found}
 use Rattle.lookup.specs.Following.{foundAt, fromSource, recordOf, follow, isThere, lookup}

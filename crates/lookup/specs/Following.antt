@@ -14,7 +14,7 @@ use Rattle.plan.specs.Operations.{followed}
 use Rattle.plan.specs.Words.{nodeAt}
 use Rattle.plan.specs.Answers.{Outcome, accepted, refused, refuse, need, andThen, answerOf}
 use Rattle.shapes.specs.Sources.{sourceElement}
-use Rattle.verifier.specs.Rules.{Derived, noSource}
+use Rattle.rules.specs.Rules.{Derived, noSource}
 use Rattle.verifier.specs.Check.{verdict, countOf}
 use Rattle.lookup.specs.declared.Place.{Place}
 use Rattle.lookup.specs.declared.Found.{Found}

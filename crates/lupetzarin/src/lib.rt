@@ -18,7 +18,7 @@ pub extern "C" fn lup_unpack(bytes: &[u8], table: &mut [i64]) -> plan::Answer
 pub extern "C" fn lup_check(table: &[i64], derived: &mut [i64]) -> plan::Answer
     ensures { λ r. ⌜ (r ≡ checkAnswer (check (now (table .entry)) (length (now (derived .entry))))) × (now (derived .exit) ≡ derivedAfter (check (now (table .entry)) (length (now (derived .entry)))) (now (derived .entry))) ⌝ }
 {
-    checking::check(table, derived)
+    verifier::check(table, derived)
 }
 
 // A packed plan, unpacked and checked: the node count or, refused, 65536 times the number plus the place.
@@ -26,7 +26,7 @@ pub extern "C" fn lup_check(table: &[i64], derived: &mut [i64]) -> plan::Answer
 pub extern "C" fn lup_unpack_check(bytes: &[u8]) -> u64
     ensures { λ r. ⌜ r ≡ codeOf (unpackCheck (now (bytes .entry))) ⌝ }
 {
-    checking::unpack_check(bytes)
+    verifier::unpack_check(bytes)
 }
 
 // The run of a plan on the input of its PARAMs: every element of every node into the two result buffers, which stay as they were where it is

@@ -10,7 +10,7 @@ use lib.ListN.{length}
 use Rattle.plan.specs.declared.Interval.{Interval}
 use Rattle.plan.specs.Answers.{Outcome, accepted, refused, need, andThen}
 use Rattle.plan.proofs.Outcomes.{accepted-same, need-accepted, then-accepted}
-use Rattle.verifier.specs.Rules.{Derived}
+use Rattle.rules.specs.Rules.{Derived}
 use Rattle.verifier.specs.Check.{verdict, totalOf}
 use Rattle.cells.specs.Cells.{Field}
 use Rattle.runner.specs.Inputs.{inputLimits, testInputs}

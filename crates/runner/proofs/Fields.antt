@@ -15,7 +15,7 @@ use Rattle.plan.specs.declared.NodeNumber.{NodeNumber}
 use Rattle.plan.specs.declared.ElementNumber.{ElementNumber}
 use Rattle.plan.specs.Operations.{uses}
 use Rattle.plan.specs.Words.{nodeAt}
-use Rattle.verifier.specs.Rules.{Derived, noSource}
+use Rattle.rules.specs.Rules.{Derived, noSource}
 use Rattle.verifier.specs.Check.{countOf}
 use Rattle.cells.specs.Cells.{Cell, Field, cellAt}
 use Rattle.cells.specs.Nodes.{evalCell}

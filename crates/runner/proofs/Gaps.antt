@@ -5,7 +5,7 @@ use mathlib.Core.List.{List}
 use lib.IntN.{ℤ, pos}
 use lib.ListN.{length, getD}
 use Rattle.plan.specs.Answers.{Outcome, accepted, refused, andThen}
-use Rattle.verifier.specs.Rules.{Derived}
+use Rattle.rules.specs.Rules.{Derived}
 use Rattle.verifier.specs.Check.{verdict}
 use Rattle.cells.specs.Cells.{Field}
 use Rattle.runner.specs.Inputs.{inputLimits}

@@ -20,7 +20,7 @@ use Rattle.plan.specs.Words.{nodeAt, ifParam, overParams}
 use Rattle.plan.specs.Answers.{Outcome, accepted, refused, need, inTurn}
 use Rattle.plan.proofs.Outcomes.{need-accepted, turn-last, turn-same, turn-all, turn-prefix}
 use Rattle.bounds.proofs.Sound.{held, holding}
-use Rattle.verifier.specs.Rules.{Derived, noSource}
+use Rattle.rules.specs.Rules.{Derived, noSource}
 use Rattle.verifier.specs.Check.{countOf}
 use Rattle.cells.specs.Cells.{Cell, known, gap}
 use Rattle.cells.proofs.Sound.{Bounded}

@@ -22,7 +22,7 @@ use Rattle.plan.specs.Words.{nodeAt}
 use Rattle.plan.proofs.ByOperation.{divides-uses}
 use Rattle.bounds.specs.Rules.{resultBounds}
 use Rattle.bounds.proofs.Sound.{In, holding, wider}
-use Rattle.verifier.specs.Rules.{Derived, noSource, sourceOf, divisorRight}
+use Rattle.rules.specs.Rules.{Derived, noSource, sourceOf, divisorRight}
 use Rattle.verifier.specs.Check.{first, second, third, countOf}
 use Rattle.verifier.specs.Meets.{NodeMeets, NodesMeet}
 use Rattle.verifier.proofs.Nodes.{op-known, bounds-derived, in-type, source2-before, source-is}

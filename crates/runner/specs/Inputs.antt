@@ -11,7 +11,7 @@ use Rattle.plan.specs.Operations.{PARAM}
 use Rattle.plan.specs.Types.{between, holds}
 use Rattle.plan.specs.Words.{nodeAt, overParams}
 use Rattle.plan.specs.Answers.{Outcome, accepted, refused, refuse, need, inTurn}
-use Rattle.verifier.specs.Rules.{Derived, noSource}
+use Rattle.rules.specs.Rules.{Derived, noSource}
 use Rattle.verifier.specs.Check.{countOf}
 use Rattle.cells.specs.Cells.{Cell, known, gap}
 

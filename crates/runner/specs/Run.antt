@@ -13,7 +13,7 @@ use Rattle.plan.specs.declared.NodeNumber.{NodeNumber}
 use Rattle.plan.specs.Operations.{uses}
 use Rattle.plan.specs.Words.{nodeAt}
 use Rattle.plan.specs.Answers.{Outcome, accepted, refused, refuse, need, andThen, answerOf, bufferAfter}
-use Rattle.verifier.specs.Rules.{Derived, noSource}
+use Rattle.rules.specs.Rules.{Derived, noSource}
 use Rattle.verifier.specs.Check.{verdict, totalOf}
 use Rattle.cells.specs.Cells.{Cell, known, gap, Field}
 use Rattle.cells.specs.Nodes.{Operands, evalNode}

@@ -18,7 +18,7 @@ use Rattle.laws.proofs.Lists.{length-tab, concat-append, take-whole}
 use Rattle.laws.proofs.Store.{store-none, store-same, store-append, store-hit, store-tab, length-store}
 use Rattle.plan.specs.Words.{nodeAt, element}
 use Rattle.plan.specs.Answers.{written}
-use Rattle.verifier.specs.Rules.{Derived, noSource}
+use Rattle.rules.specs.Rules.{Derived, noSource}
 use Rattle.verifier.specs.Check.{countOf, totalOf}
 use Rattle.cells.specs.Cells.{Cell, gap, Field}
 use Rattle.cells.specs.Nodes.{evalCell}

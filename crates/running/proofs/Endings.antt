@@ -10,10 +10,10 @@ use Rattle.laws.specs.Lists.{lastOr}
 use Rattle.laws.proofs.Lists.{last-is, take-whole}
 use Rattle.plan.specs.declared.Answer.{Answer}
 use Rattle.plan.specs.Answers.{Outcome, accepted, refuse}
-use Rattle.verifier.specs.declared.Verdict.{Verdict}
-use Rattle.verifier.specs.Rules.{Derived, noSource}
+use Rattle.verifier.specs.declared.Derivation.{Derivation}
+use Rattle.rules.specs.Rules.{Derived, noSource}
 use Rattle.verifier.specs.Check.{countOf, totalOf, verdict}
-use Rattle.checking.specs.Verdicts.{Ends}
+use Rattle.verifier.specs.Verdicts.{Ends}
 use Rattle.cells.specs.Cells.{Cell, Field}
 use Rattle.runner.specs.Inputs.{inputLimits, inputCells, testInputs}
 use Rattle.runner.specs.Run.{noField, nodeField, fieldsTo, fieldsOf, runAccepted, run, runAnswer, valuesAfter, flagsAfter, valueOf, flagOf, gapCount}
@@ -32,7 +32,7 @@ pub refusal-ends : {o : Outcome (List Field)} {number place : ℕ} {a : Answer} 
 refusal-ends vs fs e h = (rw e h, rw e refl, rw e refl)
 
 -- 1 to 12
-module _ (t : List ℤ) {r : Verdict} (d : Ends t r) where
+module _ (t : List ℤ) {r : Derivation} (d : Ends t r) where
   pub check-breaks : (r .number ≡ 0 → ⊥) → verdict t ≡ refuse (r .number) (r .place)
   check-breaks z = d .is-verdict ∙ rw (ne-eqb (r .number) 0 z) refl
 

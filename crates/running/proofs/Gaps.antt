@@ -10,8 +10,8 @@ use lib.ListN.{length, getD}
 use Rattle.laws.specs.Numbering.{count}
 use Rattle.shapes.specs.Shown.{shown, capped}
 use Rattle.shaping.proofs.Counts.{capped-within}
-use Rattle.verifier.specs.declared.Record.{Record}
-use Rattle.verifier.specs.Rules.{noSource}
+use Rattle.rules.specs.declared.Record.{Record}
+use Rattle.rules.specs.Rules.{noSource}
 use Rattle.verifier.specs.Check.{countOf}
 use Rattle.cells.specs.Cells.{Cell, known, gap}
 use Rattle.runner.specs.Run.{flagOf, gapCount}

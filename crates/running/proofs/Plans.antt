@@ -18,13 +18,13 @@ use Rattle.plan.specs.Types.{between, contains, rangeOf}
 use Rattle.plan.specs.Words.{nodeAt, element, nodeCount}
 use Rattle.shapes.proofs.Extents.{no-extents}
 use Rattle.bounds.proofs.Sound.{In, wider}
-use Rattle.verifier.specs.declared.Record.{Record}
-use Rattle.verifier.specs.Rules.{Derived, noSource}
+use Rattle.rules.specs.declared.Record.{Record}
+use Rattle.rules.specs.Rules.{Derived, noSource}
 use Rattle.verifier.specs.Check.{countOf, totalOf, totalLimit, lengthRight}
 use Rattle.verifier.specs.Meets.{NodesMeet, PlanMeets}
 use Rattle.verifier.proofs.Accepted.{accepted-meets}
 use Rattle.verifier.proofs.Nodes.{in-type, few-elements, extents-at}
-use Rattle.checking.proofs.Ending.{right-length}
+use Rattle.verifier.proofs.Ending.{right-length}
 use Rattle.cells.specs.Cells.{Cell, known, gap}
 use Rattle.cells.proofs.Sound.{Bounded}
 use Rattle.runner.specs.Inputs.{inputStart, inputLimits, inputCells, declared}

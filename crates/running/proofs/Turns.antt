@@ -20,12 +20,12 @@ use Rattle.plan.specs.Operations.{PARAM, uses, masks}
 use Rattle.plan.specs.Words.{nodeAt, paramsBefore}
 use Rattle.shapes.specs.Shown.{shown}
 use Rattle.shapes.proofs.Extents.{some-element}
-use Rattle.verifier.specs.declared.Record.{Record}
-use Rattle.verifier.specs.Rules.{Derived, noSource, sourceOf}
+use Rattle.rules.specs.declared.Record.{Record}
+use Rattle.rules.specs.Rules.{Derived, noSource, sourceOf}
 use Rattle.verifier.specs.Check.{first, second, third, countOf, totalOf}
-use Rattle.verifier.specs.Code.{Masked, viewOf}
+use Rattle.rules.specs.Code.{Masked, viewOf}
 use Rattle.verifier.specs.Meets.{NodeMeets}
-use Rattle.verifier.proofs.EarlyRules.{bit-uses}
+use Rattle.rules.proofs.EarlyRules.{bit-uses}
 use Rattle.verifier.proofs.Nodes.{op-known, source1-before, source2-before, source3-before, shapes-agree, extents-derived, source-has, source-is}
 use Rattle.cells.specs.Cells.{Cell, gap}
 use Rattle.cells.specs.Nodes.{Operands}

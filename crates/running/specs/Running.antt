@@ -6,8 +6,8 @@ use lib.IntN.{ℤ}
 use lib.ListN.{length, getD, take}
 use Rattle.laws.specs.Store.{store}
 use Rattle.plan.specs.Answers.{accepted}
-use Rattle.verifier.specs.declared.Record.{Record}
-use Rattle.verifier.specs.Rules.{Derived}
+use Rattle.rules.specs.declared.Record.{Record}
+use Rattle.rules.specs.Rules.{Derived}
 use Rattle.verifier.specs.Check.{totalOf, verdict}
 use Rattle.cells.specs.Cells.{Cell, gap}
 use Rattle.runner.specs.Inputs.{inputLimits, testInputs}

@@ -6,7 +6,7 @@ ghost use Prim.Native.Nat.{_+_, _^_, _/_, _%_, _-_, _≤_, _<_};
 ghost use lib.Dec.{eqb};
 ghost use lib.ListN.{length, getD};
 ghost use Rattle.shapes.specs.Shown.{shown};
-ghost use Rattle.verifier.specs.Rules.{noSource};
+ghost use Rattle.rules.specs.Rules.{noSource};
 ghost use Rattle.verifier.specs.Check.{countOf, totalOf};
 ghost use Rattle.runner.specs.Inputs.{inputCells};
 ghost use Rattle.runner.specs.Run.{run, runAnswer, valuesAfter, flagsAfter, valueOf, flagOf};
@@ -14,7 +14,7 @@ ghost use Rattle.inputs.specs.Nodes.{nodesOf};
 ghost use Rattle.inputs.specs.Scanning.{gapsFrom};
 ghost use Rattle.running.specs.Running.{laidTo, Checked, Fed, Places};
 use evaluation::Operand;
-use verifier::Record;
+use rules::Record;
 
 // Source k, of record r, whose cells begin at `start`; no extents where the operation does not use it.
 fn operand(mask: usize, k: usize, r: Record, start: usize) -> Operand
@@ -28,7 +28,7 @@ fn operand(mask: usize, k: usize, r: Record, start: usize) -> Operand
             base: start,
         };
     }
-    let none = verifier::blank();
+    let none = rules::blank();
     let e = none.extents;
     Operand { shape: e, base: 0 }
 }
@@ -125,7 +125,7 @@ pub fn run(
 ) -> plan::Answer
     ensures { λ r. ⌜ (r ≡ runAnswer (run (now (table .entry)) (now (values .entry)) (now (flags .entry)) (length (now («out_values» .entry))) (length (now («out_flags» .entry))))) × (now («out_values» .exit) ≡ valuesAfter (run (now (table .entry)) (now (values .entry)) (now (flags .entry)) (length (now («out_values» .entry))) (length (now («out_flags» .entry)))) (now («out_values» .entry))) × (now («out_flags» .exit) ≡ flagsAfter (run (now (table .entry)) (now (values .entry)) (now (flags .entry)) (length (now («out_values» .entry))) (length (now («out_flags» .entry)))) (now («out_flags» .entry))) ⌝ }
 {
-    let r = checking::verdict(table);
+    let r = verifier::verdict(table);
     if r.number != 0 {
         return plan::refused(r.number as u64, r.place as u64);
     }

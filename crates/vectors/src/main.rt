@@ -115,7 +115,7 @@ fn checks(words: &[u8], table: &mut [i64], buffer: &mut [i64], answer: &[u8]) ->
 {
     read_words(words, table);
     fill(buffer);
-    let a = checking::check(&table[..], buffer);
+    let a = verifier::check(&table[..], buffer);
     same_answer(a, answer) & same_words(&buffer[..], answer)
 }
 
@@ -180,7 +180,7 @@ fn any_case(kind: u8, input: &[u8], answer: &[u8]) -> Finding {
     if answer.len() != 8 {
         return Finding::Malformed;
     }
-    found(checking::unpack_check(input) == eight(answer, 0) as u64)
+    found(verifier::unpack_check(input) == eight(answer, 0) as u64)
 }
 
 // The case in a whole frame.

@@ -21,15 +21,16 @@ use Rattle.plan.specs.Words.{nodeAt, overParams, paramsBefore}
 use Rattle.plan.specs.Answers.{Outcome, accepted, refuse, Rule, rule, inTurn, AllHold, FirstFailing, here, later}
 use Rattle.plan.proofs.Outcomes.{first-front, first-back, all-both, order-fails, order-holds, turn-more, turn-stays}
 use Rattle.shapes.specs.Rules.{elementLimit, shapesAgree, resultExtents}
-use Rattle.verifier.specs.declared.Record.{Record}
-use Rattle.verifier.specs.declared.Judged.the-variants.{Meets, Breaks}
-use Rattle.verifier.specs.Rules.{Derived, noSource, sourceOf, derivedOf, shapeRight}
-use Rattle.verifier.specs.declared.Verdict.{Verdict}
+use Rattle.rules.specs.declared.Record.{Record}
+use Rattle.rules.specs.declared.Judged.the-variants.{Meets, Breaks}
+use Rattle.rules.specs.Rules.{Derived, noSource, sourceOf, derivedOf, shapeRight}
+use Rattle.verifier.specs.declared.Derivation.{Derivation}
 use Rattle.verifier.specs.Check.{first, second, third, deriveNode, nodeRules, checkNode, checkTo, countOf, totalOf}
-use Rattle.verifier.specs.Code.{Masked, viewOf, earlyRulesOf, shapeRulesOf, valueRulesOf, Judges, Early, Derives}
+use Rattle.rules.specs.Code.{Masked, viewOf, earlyRulesOf, shapeRulesOf, valueRulesOf, Judges, Early}
+use Rattle.verifier.specs.Verdicts.{Derives}
 use Rattle.verifier.proofs.Accepted.{checked-meets}
 use Rattle.verifier.proofs.Nodes.{few-elements, source-has, sources-before}
-use Rattle.verifier.proofs.EarlyRules.{bit-uses}
+use Rattle.rules.proofs.EarlyRules.{bit-uses}
 
 -- ---- the number of a rule
 
@@ -183,7 +184,7 @@ judged-few x params a b c r n j =
 -- ---- the ways out
 
 module _ (t : List ℤ) (n : ℕ) (ds : List Record) where
-  pub derives-stop : (number place : ℕ) {r : Verdict} → length ds ≡ 256 → Stops t n number place
+  pub derives-stop : (number place : ℕ) {r : Derivation} → length ds ≡ 256 → Stops t n number place
       → r ≡ record { number = number; place = place; count = 0; total = 0; records = ds } → Derives t n r
   derives-stop number place long e q =
       let z : number ≡ 0 → ⊥ = λ k. omega (arith, e .range) in
@@ -196,7 +197,7 @@ module _ (t : List ℤ) (n : ℕ) (ds : List Record) where
         long = long;
       })
 
-  pub derives-done : (i params total : ℕ) {r : Verdict} → SoFar t i ds params total → i ≤ n → n ≤ i
+  pub derives-done : (i params total : ℕ) {r : Derivation} → SoFar t i ds params total → i ≤ n → n ≤ i
       → r ≡ record { number = 0; place = 0; count = n; total = total; records = ds } → Derives t n r
   derives-done i params total so p q is =
       let e : i ≡ n = omega arith in

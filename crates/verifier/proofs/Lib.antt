@@ -1,11 +1,7 @@
-pub mod Tables
 pub mod Accepted
 pub mod Nodes
 pub mod Facts
-pub mod TypeRule
-pub mod DeviceRule
-pub mod EarlyRules
-pub mod RowRule
-pub mod Judging
-pub mod Narrowing
 pub mod Deriving
+pub mod Ending
+pub mod Writing
+pub mod Packed

@@ -9,7 +9,6 @@ use lib.IntN.{ℤ}
 use lib.Dec.{ltb}
 use lib.ListN.{length, getD, take, length-take, List·getD-eq-default}
 use lib.Seq.{getD-take}
-use Rattle.laws.specs.Lists.{among}
 use Rattle.laws.proofs.Booleans.{bool-cases, cond-both, and-true}
 use Rattle.laws.proofs.Induction.{each-below}
 use Rattle.plan.specs.declared.Node.{Node}
@@ -21,7 +20,8 @@ use Rattle.shapes.specs.Rows.{isPermutation}
 use Rattle.shapes.specs.Rules.{elementLimit, shapesAgree, resultExtents}
 use Rattle.shapes.proofs.Extents.{Extents, no-extents, result-extents, some-element}
 use Rattle.bounds.specs.Rules.{resultBounds}
-use Rattle.verifier.specs.Rules.{Derived, noSource, sourceOf, implies, sourcesEarlier, rowsRight, shapeRight, boundsInType, derivedOf}
+use Rattle.rules.specs.Rules.{Derived, noSource, sourceOf, implies, sourcesEarlier, shapeRight, boundsInType, derivedOf}
+use Rattle.rules.proofs.RowRule.{permute-rule}
 use Rattle.verifier.specs.Check.{first, second, third, countOf}
 use Rattle.verifier.specs.Meets.{NodeMeets, NodesMeet}
 
@@ -37,11 +37,6 @@ sources-before x n e =
     let f = and-true (implies (uses (x .op) 1) (ltb (x .source1 .0) n)) _ e in
     let g = and-true (implies (uses (x .op) 2) (ltb (x .source2 .0) n)) (implies (uses (x .op) 3) (ltb (x .source3 .0) n)) (f .1) in
     (λ u. ltb-true _ _ (implied (uses (x .op) 1) _ (f .0) u), λ u. ltb-true _ _ (implied (uses (x .op) 2) _ (g .0) u), λ u. ltb-true _ _ (implied (uses (x .op) 3) _ (g .1) u))
-
--- rule 7 of a PERMUTE
-pub permute-rule : (x : Node) (params rank : ℕ) → rowsRight x params rank ≡ true → x .op ≡ PERMUTE → isPermutation rank (listOf (x .rowa)) ≡ true
-unfolding rowsRight among
-permute-rule x params rank e q = rw q at e
 
 -- ---- one node, from its rules
 

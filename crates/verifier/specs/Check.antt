@@ -12,7 +12,7 @@ use Rattle.plan.specs.declared.Node.{Node}
 use Rattle.plan.specs.Words.{wordsPerNode, nodeLimit, wordsOf, nodeAt, nodeCount, paramsBefore}
 use Rattle.plan.specs.Answers.{Outcome, accepted, refused, need, andThen, inTurn, Rule, inOrder, answerOf, bufferAfter}
 use Rattle.codec.specs.Plans.{unpack}
-use Rattle.verifier.specs.Rules.{Derived, sourceOf, derivedOf, rulesOf}
+use Rattle.rules.specs.Rules.{Derived, sourceOf, derivedOf, rulesOf}
 
 -- source k of a node after the earlier ones
 abbrev pub first : Node → List Derived → Derived

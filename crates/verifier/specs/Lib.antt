@@ -1,5 +1,4 @@
-pub mod Rules
 pub mod Check
 pub mod Meets
 pub mod Listing
-pub mod Code
+pub mod Verdicts

@@ -8,7 +8,7 @@ use lib.ListN.{length, getD, take}
 use Rattle.laws.specs.Lists.{tab, concat}
 use Rattle.plan.specs.Words.{nodeAt}
 use Rattle.plan.specs.Answers.{Outcome, accepted, refused}
-use Rattle.verifier.specs.Rules.{Derived, noSource}
+use Rattle.rules.specs.Rules.{Derived, noSource}
 use Rattle.verifier.specs.Check.{Checked, unpackCheck}
 
 -- bytes of the text

@@ -9,7 +9,7 @@ use lib.ListN.{length, getD, take}
 use Rattle.plan.specs.Operations.{operationCount}
 use Rattle.plan.specs.Words.{nodeAt, wordsOf, nodeCount, paramsBefore}
 use Rattle.plan.specs.Answers.{Refusal, FirstFailing}
-use Rattle.verifier.specs.Rules.{Derived, noSource, unusedZero, sourcesEarlier, typeNamed, typesAgree, rowsRight, shapeRight, devicesAgree, divisorRight, boundsInType, derivedOf}
+use Rattle.rules.specs.Rules.{Derived, noSource, unusedZero, sourcesEarlier, typeNamed, typesAgree, rowsRight, shapeRight, devicesAgree, divisorRight, boundsInType, derivedOf}
 use Rattle.verifier.specs.Check.{first, second, third, nodeRules, lengthRight, totalOf, totalLimit}
 
 -- Node n of table t meets rules 2 to 11 after the earlier nodes' records, with its PARAM turn, and d is what they derive of it.

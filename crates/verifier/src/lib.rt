@@ -1,364 +1,28 @@
-// The check of a plan.
-ghost use mathlib.Core.Path.{_≡_};
+// The check of a plan: its answer and what it writes.
 ghost use Prim.Native.Nat.{ℕ, _+_, _*_, _≤_, _<_, _^_, _/_, _%_};
-ghost use Rattle.verifier.specs.Rules.{typesAgree, oneDevice, joinDevice, devicesAgree, deviceNamed, paramRight, unusedZero, sourcesEarlier, typeNamed, rowsRight, noSource, divisorRight};
-ghost use lib.ListN.{length, getD};
-ghost use lib.Dec.{eqb};
+ghost use mathlib.Core.Path.{_≡_};
 ghost use mathlib.Core.Bool.{cond};
-ghost use Rattle.plan.specs.Operations.{masks};
-ghost use Rattle.plan.specs.Words.{nodeAt};
-ghost use Rattle.verifier.specs.Code.{Masked, TypeOf, DeviceOf, viewOf, Shapes, Gathers, Ready, Values, Judges, Early, Derives};
-ghost use Rattle.laws.specs.Numbering.{count};
-ghost use Rattle.shapes.specs.Shown.{shown};
-use bounds::Bounds;
-use plan::Interval;
-use plan::Node;
+ghost use mathlib.Core.List.{[], _∷_, map};
+ghost use lib.Dec.{eqb};
+ghost use lib.ListN.{length, take};
+ghost use lib.Seq.{sets};
+ghost use Rattle.laws.specs.Lists.{concat};
+ghost use Rattle.rules.specs.Rules.{noSource};
+ghost use Rattle.rules.specs.Code.{viewOf};
+ghost use Rattle.verifier.specs.Check.{lengthRight, derivedWords, check, checkAnswer, derivedAfter, unpackCheck, codeOf};
+ghost use Rattle.verifier.specs.Verdicts.{Derives, Ends, codeIn};
+use codec::Plan;
 use plan::NodeNumber;
-use shapes::Shape;
-
-// Rule 6: the sources' types suit the operation. 0 is bool.
-fn types_agree(op: usize, a: u8, b: u8, c: u8) -> bool
-    requires { ⌜ op < 21 ⌝ }
-    ensures { λ r. ⌜ r ≡ typesAgree op a b c ⌝ }
-{
-    if op < 9 {
-        return true;
-    }
-    if op < 15 {
-        return (a == b) & !(a == 0);
-    }
-    if op == 15 {
-        return a == b;
-    }
-    if op < 18 {
-        return (a == b) & (a == 0);
-    }
-    if op == 18 {
-        return (a == 0) & (b == c);
-    }
-    if op == 19 {
-        return !(a == 0);
-    }
-    true
-}
-
-// At most one of two devices is not 0, or they are the same.
-fn one_device(d: u8, e: u8) -> bool
-    ensures { λ r. ⌜ r ≡ oneDevice d e ⌝ }
-{
-    (d == 0) | ((e == 0) | (d == e))
-}
-
-// The device that is not 0, or 0.
-fn join_device(d: u8, e: u8) -> u8
-    ensures { λ r. ⌜ r ≡ joinDevice d e ⌝ }
-{
-    if d == 0 { e } else { d }
-}
-
-// Rule 9: no two devices.
-fn devices_agree(d: u8, e: u8, f: u8) -> bool
-    ensures { λ r. ⌜ r ≡ devicesAgree d e f ⌝ }
-{
-    one_device(d, e) & one_device(join_device(d, e), f)
-}
-
-// The device of a result.
-fn result_device(x: Node, d: u8, e: u8, f: u8) -> usize
-    requires { ⌜ x .op < 21 ⌝ }
-    ensures { λ r. ⌜ DeviceOf x d e f r ⌝ }
-{
-    let op = x.op;
-    if op == 0 {
-        return 0;
-    }
-    if op == 1 {
-        return x.device;
-    }
-    if op == 20 {
-        return x.device;
-    }
-    join_device(join_device(d, e), f) as usize
-}
-
-// The type of a result.
-fn result_type(x: Node, a: u8, b: u8) -> usize
-    requires { ⌜ x .op < 21 ⌝ }
-    ensures { λ r. ⌜ TypeOf x a b r ⌝ }
-{
-    let op = x.op;
-    if op < 2 {
-        return x.dtype;
-    }
-    if op == 8 {
-        return x.dtype;
-    }
-    if op < 14 {
-        return a as usize;
-    }
-    if op < 18 {
-        return 0;
-    }
-    if op == 18 {
-        return b as usize;
-    }
-    a as usize
-}
-
-// Rule 7: a device named is 1..255.
-fn device_named(x: Node) -> bool
-    ensures { λ r. ⌜ r ≡ deviceNamed x ⌝ }
-{
-    let d = x.device;
-    (1 <= d) & (d <= 255)
-}
-
-// Rule 7: the k-th PARAM has slot k, at most 15, and low at most high.
-fn param_right(x: Node, k: usize) -> bool
-    ensures { λ r. ⌜ r ≡ paramRight x k ⌝ }
-{
-    let slot = x.number;
-    let low = x.low;
-    let high = x.high;
-    ((plan::size_of_word(slot) == k) & (k <= 15)) & (low <= high)
-}
-
-// Rule 3: the words that the operation does not use are zero.
-fn unused_zero(op: usize, mask: usize, words: &[i64]) -> bool
-    requires { ⌜ (Masked op mask) × (length (now words) ≡ 17) ⌝ }
-    ensures { λ r. ⌜ r ≡ unusedZero op (now (words .entry)) ⌝ }
-{
-    let mut zero = true;
-    let mut k = 1;
-    while k < 17 {
-        zero = zero & (plan::uses_word(mask, k) | (plan::size_of_word(words[k]) == 0));
-        k += 1;
-    }
-    zero
-}
-
-// Rule 4: the sources that are used are numbers of earlier nodes.
-fn sources_earlier(x: Node, mask: usize, n: usize) -> bool
-    requires { ⌜ Masked (x .op) mask ⌝ }
-    ensures { λ r. ⌜ r ≡ sourcesEarlier x n ⌝ }
-{
-    let s1 = x.source1;
-    let s2 = x.source2;
-    let s3 = x.source3;
-    let first = !plan::uses_word(mask, 1) | (s1.0 < n);
-    let second = !plan::uses_word(mask, 2) | (s2.0 < n);
-    let third = !plan::uses_word(mask, 3) | (s3.0 < n);
-    first & (second & third)
-}
-
-// Rule 5: a type that is named is one of the four.
-fn type_named(x: Node, mask: usize) -> bool
-    requires { ⌜ Masked (x .op) mask ⌝ }
-    ensures { λ r. ⌜ r ≡ typeNamed x ⌝ }
-{
-    let dtype = x.dtype;
-    !plan::uses_word(mask, 4) | (dtype <= 3)
-}
-
-// What is derived of a node.
-pub struct Record {
-    pub dtype: u8,
-    pub device: u8,
-    pub bounds: Bounds,
-    pub extents: Shape,
-}
-
-// A shape with its count of elements, or the number of the rule that the node breaks.
-pub enum Shaped {
-    Fits(Shape, usize),
-    Misfits(usize),
-}
-
-// A record with its count of elements, or the number of the rule that the node breaks.
-pub enum Judged {
-    Meets(Record, usize),
-    Breaks(usize),
-}
+use rules::Judged;
+use rules::Record;
 
 // The records of an accepted plan, the first `count` of them, and the total of their elements; or the refusal and its place.
-pub struct Verdict {
+pub struct Derivation {
     pub number: usize,
     pub place: usize,
     pub count: usize,
     pub total: usize,
     pub records: [Record; 256],
-}
-
-// What stands for a source that is not used.
-pub fn blank() -> Record
-    ensures { λ r. ⌜ viewOf r ≡ noSource ⌝ }
-{
-    Record {
-        dtype: 0,
-        device: 0,
-        bounds: Bounds { low: 0, high: 0 },
-        extents: Shape {
-            n0: 0,
-            n1: 0,
-            n2: 0,
-            n3: 0,
-        },
-    }
-}
-
-// Rule 7: rows and numbers.
-fn rows_right(x: Node, params: usize, rank: usize) -> bool
-    requires { ⌜ x .op < 21 ⌝ }
-    ensures { λ r. ⌜ r ≡ rowsRight x params rank ⌝ }
-{
-    let op = x.op;
-    let a = x.rowa;
-    let b = x.rowb;
-    let number = x.number;
-    if op == 0 {
-        return true;
-    }
-    if op == 1 {
-        return param_right(x, params) & (device_named(x) & shapes::is_shape_row(a));
-    }
-    if op == 2 {
-        return shapes::is_permutation(rank, a);
-    }
-    if op == 3 {
-        return shapes::is_flag_row(rank, a);
-    }
-    if op < 6 {
-        return shapes::is_shape_row(a);
-    }
-    if op < 8 {
-        return shapes::is_shape_row(a) & shapes::is_offset_row(rank, b);
-    }
-    if op < 19 {
-        return true;
-    }
-    if op == 19 {
-        return (plan::size_of_word(number) <= 1) & shapes::is_flag_row(rank, a);
-    }
-    device_named(x)
-}
-
-// Rules 5 to 8, and the shape of the result.
-fn shape_node(x: Node, mask: usize, params: usize, a: Record, b: Record, c: Record) -> Shaped
-    requires { ⌜ (Masked (x .op) mask) × (count (shown (a .extents)) ≤ 1048576) ⌝ }
-    ensures { λ r. ⌜ Shapes x params (viewOf a) (viewOf b) (viewOf c) r ⌝ }
-{
-    let op = x.op;
-    let s = a.extents;
-    let t = b.extents;
-    let u = c.extents;
-    if !type_named(x, mask) {
-        return Shaped::Misfits(5);
-    }
-    if !types_agree(op, a.dtype, b.dtype, c.dtype) {
-        return Shaped::Misfits(6);
-    }
-    if !rows_right(x, params, shapes::rank(s)) {
-        return Shaped::Misfits(7);
-    }
-    if !shaping::shapes_agree(x, s, t, u) {
-        return Shaped::Misfits(8);
-    }
-    let e = shaping::result_shape(x, s, t, u);
-    let n = shaping::count(e);
-    if 1048576 < n {
-        return Shaped::Misfits(8);
-    }
-    Shaped::Fits(e, n)
-}
-
-// How many elements a REDUCE gathers; 1 for any other operation.
-fn gathers(x: Node, s: Shape) -> usize
-    requires { ⌜ count (shown s) ≤ 1048576 ⌝ }
-    ensures { λ r. ⌜ Gathers x (shown s) r ⌝ }
-{
-    let op = x.op;
-    let flags = x.rowa;
-    if op == 19 {
-        return shaping::gathered_count(s, flags);
-    }
-    1
-}
-
-// Rule 10: a divisor's bounds do not hold 0.
-fn divisor_right(op: usize, b: Interval) -> bool
-    ensures { λ r. ⌜ r ≡ divisorRight op b ⌝ }
-{
-    !((op == 12) | (op == 13)) | !bounds::holds_zero(b)
-}
-
-// Rules 9 to 11, and the record of a node of shape e with n elements.
-fn value_node(x: Node, params: usize, a: Record, b: Record, c: Record, e: Shape, n: usize) -> Judged
-    requires { ⌜ Ready x params (viewOf a) (viewOf b) (viewOf c) e n ⌝ }
-    ensures { λ r. ⌜ Values x (viewOf a) (viewOf b) (viewOf c) r ⌝ }
-{
-    let op = x.op;
-    let s = a.extents;
-    let ba = a.bounds;
-    let bb = b.bounds;
-    let bc = c.bounds;
-    if !devices_agree(a.device, b.device, c.device) {
-        return Judged::Breaks(9);
-    }
-    let divisor = bounds::wide(bb);
-    if !divisor_right(op, divisor) {
-        return Judged::Breaks(10);
-    }
-    let gathered = gathers(x, s);
-    let first = bounds::wide(ba);
-    let third = bounds::wide(bc);
-    let range = bounds::result_bounds(x, gathered, first, divisor, third);
-    let dtype = result_type(x, a.dtype, b.dtype);
-    if !bounds::in_type(dtype, range) {
-        return Judged::Breaks(11);
-    }
-    let device = result_device(x, a.device, b.device, c.device);
-    let narrow = bounds::narrow(range);
-    Judged::Meets(
-        Record {
-            dtype: dtype as u8,
-            device: device as u8,
-            bounds: narrow,
-            extents: e,
-        },
-        n,
-    )
-}
-
-// Rules 5 to 11 of a node whose sources are a, b and c, with `params` PARAMs before it.
-fn judge(x: Node, mask: usize, params: usize, a: Record, b: Record, c: Record) -> Judged
-    requires { ⌜ (Masked (x .op) mask) × (count (shown (a .extents)) ≤ 1048576) ⌝ }
-    ensures { λ r. ⌜ Judges x params (viewOf a) (viewOf b) (viewOf c) r ⌝ }
-{
-    let shaped = shape_node(x, mask, params, a, b, c);
-    match shaped {
-        Shaped::Misfits(number) => Judged::Breaks(number),
-        Shaped::Fits(e, n) => value_node(x, params, a, b, c, e, n),
-    }
-}
-
-// Rules 2 to 4: the number of the first that node i breaks, 0 where it breaks none.
-fn early(table: &[i64], i: usize, x: Node, mask: usize) -> usize
-    requires { ⌜ (17 * i + 17 ≤ length (now table)) × (x ≡ nodeAt (now table) i) × (mask ≡ getD masks (x .op) 0) ⌝ }
-    ensures { λ r. ⌜ Early (now (table .entry)) i r ⌝ }
-{
-    let op = x.op;
-    if 21 <= op {
-        return 2;
-    }
-    let start = 17 * i;
-    let end = start + 17;
-    if !unused_zero(op, mask, &table[start..end]) {
-        return 3;
-    }
-    if !sources_earlier(x, mask, i) {
-        return 4;
-    }
-    0
 }
 
 // Where the record of a source stands; 0 where it is no earlier node.
@@ -378,7 +42,7 @@ fn source_record(mask: usize, k: usize, r: Record) -> Record
     if plan::uses_word(mask, k) {
         return r;
     }
-    blank()
+    rules::blank()
 }
 
 // 1 for a PARAM, else 0.
@@ -395,10 +59,10 @@ pub fn ended(
     count: usize,
     total: usize,
     records: [Record; 256],
-) -> Verdict
+) -> Derivation
     ensures { λ r. ⌜ r ≡ record { number = number; place = place; count = count; total = total; records = records } ⌝ }
 {
-    Verdict {
+    Derivation {
         number: number,
         place: place,
         count: count,
@@ -408,11 +72,11 @@ pub fn ended(
 }
 
 // Rules 2 to 11 of the first `count` nodes in turn.
-pub fn derive(table: &[i64], count: usize) -> Verdict
+pub fn derive(table: &[i64], count: usize) -> Derivation
     requires { ⌜ (17 * count ≤ length (now table)) × (count ≤ 256) ⌝ }
     ensures { λ r. ⌜ Derives (now (table .entry)) count r ⌝ }
 {
-    let none = blank();
+    let none = rules::blank();
     let mut records = [none; 256];
     let mut params = 0;
     let mut total = 0;
@@ -421,7 +85,7 @@ pub fn derive(table: &[i64], count: usize) -> Verdict
         let x = plan::node_at(table, i);
         let op = x.op;
         let mask = plan::used_mask(op);
-        let broken = early(table, i, x, mask);
+        let broken = rules::early(table, i, x, mask);
         if broken != 0 {
             return ended(broken, i, 0, 0, records);
         }
@@ -431,7 +95,7 @@ pub fn derive(table: &[i64], count: usize) -> Verdict
         let a = source_record(mask, 1, records[place1]);
         let b = source_record(mask, 2, records[place2]);
         let c = source_record(mask, 3, records[place3]);
-        let judged = judge(x, mask, params, a, b, c);
+        let judged = rules::judge(x, mask, params, a, b, c);
         match judged {
             Judged::Breaks(number) => {
                 return ended(number, i, 0, 0, records);
@@ -445,4 +109,120 @@ pub fn derive(table: &[i64], count: usize) -> Verdict
         }
     }
     ended(0, 0, count, total, records)
+}
+
+// Rule 1: 1 to 256 nodes of 17 words.
+fn length_right(table: &[i64]) -> bool
+    ensures { λ r. ⌜ r ≡ lengthRight (now (table .entry)) ⌝ }
+{
+    let words = table.len();
+    let count = words / 17;
+    (words % 17 == 0) & ((1 <= count) & (count <= 256))
+}
+
+// Rules 1 to 12.
+pub fn verdict(table: &[i64]) -> Derivation
+    ensures { λ r. ⌜ Ends (now (table .entry)) r ⌝ }
+{
+    if !length_right(table) {
+        let none = rules::blank();
+        return ended(1, 0, 0, 0, [none; 256]);
+    }
+    let r = derive(table, table.len() / 17);
+    if r.number == 0 {
+        if 4194304 < r.total {
+            let records = r.records;
+            return ended(12, 0, 0, 0, records);
+        }
+    }
+    r
+}
+
+// A word of a shape row: 0 after a 0.
+fn after(before: u32, n: u32) -> u32
+    ensures { λ r. ⌜ r ≡ cond (eqb before 0) 0 n ⌝ }
+{
+    if before == 0 { 0 } else { n }
+}
+
+// Four words from place `at` on.
+fn write_four(derived: &mut [i64], at: usize, a: i64, b: i64, c: i64, d: i64)
+    requires { ⌜ at + 4 ≤ length (now derived) ⌝ }
+    ensures { λ _. ⌜ now (derived .exit) ≡ sets (now (derived .entry)) at (a ∷ b ∷ c ∷ d ∷ []) ⌝ }
+{
+    derived[at] = a;
+    derived[at + 1] = b;
+    derived[at + 2] = c;
+    derived[at + 3] = d;
+}
+
+// A node's record as eight words from place `at` on.
+fn write_record(r: Record, derived: &mut [i64], at: usize)
+    requires { ⌜ at + 8 ≤ length (now derived) ⌝ }
+    ensures { λ _. ⌜ now (derived .exit) ≡ sets (now (derived .entry)) at (derivedWords (viewOf r)) ⌝ }
+{
+    let n0 = r.extents.n0;
+    let n1 = after(n0, r.extents.n1);
+    let n2 = after(n1, r.extents.n2);
+    let n3 = after(n2, r.extents.n3);
+    let ends = bounds::wide(r.bounds);
+    write_four(
+        derived,
+        at,
+        r.dtype as i64,
+        r.device as i64,
+        ends.low,
+        ends.high,
+    );
+    write_four(derived, at + 4, n0 as i64, n1 as i64, n2 as i64, n3 as i64);
+}
+
+// The first `count` records, eight words each.
+fn write_records(records: [Record; 256], count: usize, derived: &mut [i64])
+    requires { ⌜ (count ≤ 256) × (8 * count ≤ length (now derived)) ⌝ }
+    ensures { λ _. ⌜ now (derived .exit) ≡ sets (now (derived .entry)) 0 (concat (map derivedWords (map viewOf (take count records)))) ⌝ }
+{
+    let mut i = 0;
+    while i < count {
+        write_record(records[i], derived, 8 * i);
+        i += 1;
+    }
+}
+
+// The check of a plan, and what was derived of its nodes, eight words each; where it is refused, `derived` stays as it was.
+pub fn check(table: &[i64], derived: &mut [i64]) -> plan::Answer
+    ensures { λ r. ⌜ (r ≡ checkAnswer (check (now (table .entry)) (length (now (derived .entry))))) × (now (derived .exit) ≡ derivedAfter (check (now (table .entry)) (length (now (derived .entry)))) (now (derived .entry))) ⌝ }
+{
+    let r = verdict(table);
+    if r.number != 0 {
+        return plan::refused(r.number as u64, r.place as u64);
+    }
+    if derived.len() < 8 * r.count {
+        return plan::refused(14, 0);
+    }
+    let records = r.records;
+    write_records(records, r.count, derived);
+    plan::accepted(0)
+}
+
+// The node count or, refused, 65536 times the number plus the place.
+fn code(r: Derivation) -> u64
+    requires { ⌜ (r .number ≤ 12) × (r .place ≤ 256) ⌝ }
+    ensures { λ c. ⌜ c ≡ codeIn r ⌝ }
+{
+    if r.number == 0 {
+        return r.count as u64;
+    }
+    65536 * (r.number as u64) + (r.place as u64)
+}
+
+// A packed plan, unpacked and checked in one call.
+pub fn unpack_check(bytes: &[u8]) -> u64
+    ensures { λ r. ⌜ r ≡ codeOf (unpackCheck (now (bytes .entry))) ⌝ }
+{
+    let mut table = [0i64; 4352];
+    match codec::read_plan(bytes, &mut table) {
+        Plan::Stop(number, place) => 65536 * (number as u64) + (place as u64),
+        Plan::Nodes(count) => code(verdict(&table[0..17 * count])),
+    }
 }

@@ -20,7 +20,7 @@ use Rattle.shapes.specs.Rules.{extent, wordOf, sameRank, shapesAgree, resultExt
 use Rattle.shapes.proofs.Extents.{extents-positive, extents-length}
 use Rattle.shapes.proofs.RowTests.{row-word}
 use Rattle.shapes.proofs.Sources.{expand-spreads}
-use Rattle.verifier.proofs.Nodes.{permute-rule}
+use Rattle.rules.proofs.RowRule.{permute-rule}
 use Rattle.views.specs.declared.View.{View}
 use Rattle.views.specs.Strides.{Extents, spreadView, flipView, shrinkView, permuteView, axesInFront, stridesOf, dotOf}
 use Rattle.views.specs.Views.{reach, rowReach}

@@ -11,7 +11,7 @@ use Rattle.plan.specs.Operations.{PERMUTE, FLIP, EXPAND, SHRINK, Entry, _⇒_, 
 use Rattle.plan.specs.Words.{listOf}
 use Rattle.shapes.specs.Rules.{elementLimit, extent, shapesAgree}
 use Rattle.shapes.specs.Sources.{permuteSource, flipSource, expandSource, shrinkSource}
-use Rattle.verifier.specs.Rules.{rowsRight}
+use Rattle.rules.specs.Rules.{rowsRight}
 
 -- the operations that a view of their source serves
 abbrev pub viewed : List ℕ

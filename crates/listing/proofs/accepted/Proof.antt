@@ -1,7 +1,7 @@
 use mathlib.Core.List.{map}
 use native.Mathlib.Omega.{arith}
 use lib.ListN.{take}
-use Rattle.verifier.specs.Code.{viewOf}
+use Rattle.rules.specs.Code.{viewOf}
 use borrow.Author.Needs.{needs}
 use Rattle.listing.proofs.Pieces.{then, within, said}
 use Rattle.listing.proofs.Nodes.{as-many, accepted-is}

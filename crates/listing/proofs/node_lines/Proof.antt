@@ -5,7 +5,7 @@ use native.Mathlib.Omega.{arith}
 use borrow.Author.Needs.{needs}
 use lib.ListN.{length, take}
 use Rattle.plan.specs.declared.Node.{Node}
-use Rattle.verifier.specs.Code.{viewOf}
+use Rattle.rules.specs.Code.{viewOf}
 use Rattle.listing.specs.Text.{Writes, linesOf}
 use Rattle.listing.proofs.Pieces.{same-room, room-left}
 use Rattle.listing.proofs.Nodes.{no-lines, next-line, record-at}

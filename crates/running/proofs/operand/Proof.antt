@@ -1,5 +1,5 @@
 use mathlib.Core.Path.{refl, sym, ap, _∙_}
-use Rattle.verifier.specs.Rules.{Derived}
+use Rattle.rules.specs.Rules.{Derived}
 use borrow.Author.Needs.{needs}
 use Rattle.running.proofs.operand.Statement.{statement}
 use Rattle.running.proofs.operand.Tie as tie

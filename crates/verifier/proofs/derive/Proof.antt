@@ -4,8 +4,8 @@ use mathlib.Core.Path.{subst}
 use native.Mathlib.Omega.{arith}
 use lib.Dec.{eqb}
 use lib.ListN.{length-replicate}
-use Rattle.verifier.specs.declared.Judged.{Judged}
-use Rattle.verifier.specs.Code.{viewOf, Judges}
+use Rattle.rules.specs.declared.Judged.{Judged}
+use Rattle.rules.specs.Code.{viewOf, Judges}
 use Rattle.verifier.proofs.Deriving.{SoFar, so-far-none, source-view, source-few, stop-early, stop-late, one-more, masked-of, before-of, params-few, one-or-none, judged-few, derives-stop, derives-done, small-of, few-of}
 use Rattle.verifier.proofs.derive.Statement.{statement}
 use Rattle.verifier.proofs.derive.Tie as tie

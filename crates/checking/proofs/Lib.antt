@@ -1,3 +1,0 @@
-pub mod Ending
-pub mod Writing
-pub mod Packed

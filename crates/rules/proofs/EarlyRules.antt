@@ -1,0 +1,87 @@
+-- Rules 3 to 5 by the mask of used words.
+use Prim.Native.Nat.{ℕ, zero, suc, _+_, _<_, _≤_, _^_, _/_, _%_}
+use mathlib.Core.Path.{_≡_, refl, sym, _∙_}
+use mathlib.Core.Bool.{Bool, true, false, _&&_, _||_, not, true≢false, false≢true}
+use mathlib.Core.List.{List}
+use native.Mathlib.Numerals.{add-one}
+use native.Mathlib.Omega.{arith}
+use lib.IntN.{ℤ}
+use borrow.Author.Tests.{le-ltb, lt-ltb}
+use lib.Dec.{eqb, ltb, eqb·suc-zero}
+use Rattle.laws.specs.Lists.{allBelow}
+use Rattle.laws.proofs.Booleans.{all-below-snoc}
+use Rattle.plan.specs.Operations.{uses}
+use Rattle.plan.specs.declared.Node.{Node}
+use Rattle.plan.specs.Words.{sizeOf, wordAt, wordsOf, nodeAt}
+use Rattle.plan.specs.Answers.{FirstFailing}
+use Rattle.plan.proofs.Outcomes.{fails-here, holds-then}
+use Rattle.plan.proofs.Masks.{mask-bit}
+use Rattle.rules.specs.Rules.{unusedZero, sourcesEarlier}
+use Rattle.rules.specs.Code.{Masked, earlyRulesOf, Early}
+
+-- a test that failed, and one that held
+pub off : {t : Bool} (r : Bool) → r ≡ t → not r ≡ true → t ≡ false
+off true e f = absurd (false≢true f)
+off false e f = sym e
+
+pub on : {t : Bool} (r : Bool) → r ≡ t → not r ≡ false → t ≡ true
+on true e f = sym e
+on false e f = absurd (true≢false f)
+
+-- a mask's bit says whether the operation uses the word
+pub bit-uses : {op mask : ℕ} (k : ℕ) → Masked op mask → k < 17 → eqb (mask / 2 ^ k % 2) 1 ≡ uses op k
+bit-uses k m h = rw (m .is-mask) (mask-bit _ k (m .known) h)
+
+-- word k is used or zero
+abbrev pub usedOrZero : ℕ → List ℤ → ℕ → Bool
+usedOrZero op w k = eqb k 0 || (uses op k || eqb (sizeOf (wordAt w k)) 0)
+
+-- one word more, as the loop asks for it
+pub zero-more : {op mask : ℕ} (w : List ℤ) (k : ℕ) (so-far bit word : Bool) → Masked op mask → 1 ≤ k → k < 17
+    → so-far ≡ allBelow k (usedOrZero op w) → bit ≡ eqb (mask / 2 ^ k % 2) 1 → word ≡ eqb (sizeOf (wordAt w k)) 0
+    → (so-far && (bit || word)) ≡ allBelow (k + 1) (usedOrZero op w)
+zero-more {op} w (suc k) so-far bit word m l h e b q =
+    rw (add-one, all-below-snoc (suc k) (usedOrZero op w), e, b, q, bit-uses (suc k) m h, eqb·suc-zero) refl
+
+-- no word before the first: word 0 is the operation
+pub zero-none : (op : ℕ) (w : List ℤ) → true ≡ allBelow 1 (usedOrZero op w)
+unfolding allBelow
+zero-none op w = refl
+
+-- all seventeen words
+pub zero-done : (op : ℕ) (w : List ℤ) (k : ℕ) (so-far : Bool) → k ≤ 17 → 17 ≤ k → so-far ≡ allBelow k (usedOrZero op w) → so-far ≡ unusedZero op w
+unfolding unusedZero
+zero-done op w k so-far l h e = let q : k ≡ 17 = omega arith in rw q at e
+
+-- ---- rules 2 to 4 together, from the tests that the code makes in turn
+
+module _ (t : List ℤ) (i : ℕ) (x : Node) (q : x ≡ nodeAt t i) where
+  abbrev op : ℕ
+  op = nodeAt t i .op
+
+  fails-only : {r : ℕ} → 0 < r → FirstFailing (earlyRulesOf t i) r → Early t i r
+  fails-only h f = record { meets = λ e. absurd (omega arith); breaks = λ n. f }
+
+  pub early-2 : 21 ≤ x .op → Early t i 2
+  early-2 h = fails-only (omega arith) (fails-here _ (le-ltb (nodeAt t i .op) 21 (rw q at h)))
+
+  module _ (k : x .op < 21) where
+    known : ltb (nodeAt t i .op) 21 ≡ true
+    known = lt-ltb (nodeAt t i .op) 21 (rw q at k)
+
+    module _ (w : List ℤ) (e : w ≡ wordsOf t i) (r3 : Bool) (e3 : r3 ≡ unusedZero (x .op) w) where
+      is-3 : r3 ≡ unusedZero (nodeAt t i .op) (wordsOf t i)
+      is-3 = e3 ∙ rw (q, e) refl
+
+      pub early-3 : not r3 ≡ true → Early t i 3
+      early-3 f = fails-only (omega arith) (holds-then _ known (fails-here _ (off r3 is-3 f)))
+
+      module _ (n3 : not r3 ≡ false) (r4 : Bool) (e4 : r4 ≡ sourcesEarlier x i) where
+        is-4 : r4 ≡ sourcesEarlier (nodeAt t i) i
+        is-4 = e4 ∙ rw q refl
+
+        pub early-4 : not r4 ≡ true → Early t i 4
+        early-4 f = fails-only (omega arith) (holds-then _ known (holds-then _ (on r3 is-3 n3) (fails-here _ (off r4 is-4 f))))
+
+        pub early-none : not r4 ≡ false → Early t i 0
+        early-none n4 = record { meets = λ z. (known, (on r3 is-3 n3, (on r4 is-4 n4, tt))); breaks = λ n. absurd (n refl) }
