@@ -13,8 +13,8 @@ ghost use Rattle.verifier.specs.Listing.{digits, decimal, signed, shapeText, no
 ghost use Rattle.listing.specs.Text.{Writes, linesOf, checkedOf, textRoom, textWith};
 use bounds::Bounds;
 use codec::Plan;
-use shapes::Shape;
 use rules::Record;
+use shapes::Shape;
 
 // One byte.
 fn put(b: u8, text: &mut [u8], at: usize) -> usize
