@@ -6,9 +6,9 @@ usage: vectors.py             write both files
        vectors.py --list      a line for each case: index, call, name, answer
        vectors.py --spoilt PROGRAM    exit 1 unless the program finds each case that is spoilt
 
-Every expected answer here is written by hand from the sentence of 01 that is quoted above it. The model of
-tests/model is only asked afterwards, and the script stops where it differs. Cases of run and lookup come with
-those calls: kinds 3 and 4 are theirs.
+Every expected answer here is written by hand from the sentence of 01 that is quoted above it; those of run are
+in tests/boundary/run_examples.py. The model of tests/model is only asked afterwards, and the script stops where
+it differs.
 """
 import os
 import struct
@@ -17,9 +17,10 @@ import sys
 from collections import namedtuple
 
 ROOT = os.path.dirname(os.path.dirname(os.path.dirname(os.path.abspath(__file__))))
-sys.path.insert(0, os.path.join(ROOT, 'tests', 'model'))
+sys.path[:0] = [os.path.join(ROOT, 'tests', part) for part in ('model', 'boundary')]
 
 import model
+import run_examples
 from cases import (BIG, LARGE, apply, const, fresh_words, large, move, node, pack, param,
                    reduce_node)
 from model import (ADD, AND, CAST, CMPLT, CMPNE, EXPAND, FLIP, IDIV, LOAD, MAX, MOD, MUL, OR, PAD, PERMUTE,
@@ -30,9 +31,10 @@ OUTPUT = os.path.join(ROOT, 'crates', 'vectors', 'stdout')
 MOST_FRAME_BYTES = 1048576
 KINDS = {'unpack_check': 0, 'unpack': 1, 'check': 2, 'run': 3, 'lookup': 4}
 BOOL, U8, I16, I32 = range(4)
+FRESH_FLAG = 9
 
 # answer: (number, place, count), of unpack_check one number. buffer: every word afterwards, None where the
-# call has none.
+# call has none; of a run those of the values and then the flags.
 Case = namedtuple('Case', 'call name source answer buffer')
 
 
@@ -827,24 +829,63 @@ def packed_too(cases):
             yield in_one_call(f'packed: {case.name}', pack(case.source), answer)
 
 
-CASES = [*UNPACKED, *BYTES_REFUSED, *BYTE_ORDER, *CHECKS, *ONE_CALL, *packed_too(CHECKS)]
+# ------------------------------------------------------------------------ runs
+
+def run_rooms(values, flags):
+    return fresh_words(values) + [FRESH_FLAG] * flags
+
+
+def run_case(example):
+    """A run that is written by hand: "a gap is written as value 0, flag 0"."""
+    buffer = run_rooms(*example.rooms)
+    elements = example.elements or []
+    buffer[:len(elements)] = [0 if element is None else element for element in elements]
+    flags = example.rooms[0]
+    buffer[flags:flags + len(elements)] = [int(element is not None) for element in elements]
+    return Case('run', f'run: {example.name}', example, example.answer, buffer)
+
+
+RUNS = [run_case(example) for example in run_examples.EXAMPLES]
+CASES = [*UNPACKED, *BYTES_REFUSED, *BYTE_ORDER, *CHECKS, *ONE_CALL, *packed_too(CHECKS), *RUNS]
 
 # ------------------------------------------------------------------ the files
 
 
+def word_bytes(words):
+    return struct.pack(f'<{len(words)}q', *words)
+
+
+def source_bytes(case):
+    """The input of a frame."""
+    if case.call == 'run':
+        table, values, flags, rooms = case.source.table, case.source.values, case.source.flags, case.source.rooms
+        sizes = struct.pack('<5H', len(table), len(values), len(flags), *rooms)
+        return sizes + word_bytes(table) + word_bytes(values) + bytes(flags)
+    if case.call == 'unpack_check':
+        return case.source
+    data = word_bytes(case.source) if case.call == 'check' else case.source
+    return struct.pack('<H', len(case.buffer)) + data
+
+
+def answer_words(case):
+    """The numbers of the answer, and the words of the buffer after them."""
+    numbers = case.answer if isinstance(case.answer, tuple) else (case.answer,)
+    return numbers, case.buffer or []
+
+
 def frame(case):
-    answer = struct.pack('<Q', case.answer) if case.buffer is None else struct.pack('<3Q', *case.answer)
-    source = case.source
-    if case.call == 'check':
-        source = struct.pack(f'<{len(source)}q', *source)
-    if case.buffer is not None:
-        source = struct.pack('<H', len(case.buffer)) + source
-        answer += struct.pack(f'<{len(case.buffer)}q', *case.buffer)
+    numbers, words = answer_words(case)
+    source, answer = source_bytes(case), struct.pack(f'<{len(numbers)}Q', *numbers) + word_bytes(words)
     return struct.pack('<BHH', KINDS[case.call], len(source), len(answer)) + source + answer
 
 
 def of_model(case):
     """The case with the model's answer and buffer."""
+    if case.call == 'run':
+        example, buffer = case.source, run_rooms(*case.source.rooms)
+        values, flags = buffer[:example.rooms[0]], buffer[example.rooms[0]:]
+        answer = model.run(example.table, example.values, example.flags, values, flags)
+        return case._replace(answer=tuple(answer), buffer=values + flags)
     buffer = None if case.buffer is None else fresh_words(len(case.buffer))
     arguments = (case.source,) if buffer is None else (case.source, buffer)
     answer = getattr(model, case.call)(*arguments)
@@ -859,7 +900,7 @@ def problems():
             words = 'the same words' if other.buffer == case.buffer else 'other words'
             yield f'{case.call}, {case.name}: the model answers {other.answer}, not {case.answer}; {words}'
     numbers = {case.answer[0] for case in CASES if case.buffer is not None}
-    missing = {0, *range(1, 13), 14, *range(20, 25)} - numbers
+    missing = {*range(17), *range(20, 25)} - numbers
     if missing:
         yield f'no case of {sorted(missing)}'
     every = {(a, b) for a in range(2, 12) for b in range(a + 1, 12)}
@@ -877,7 +918,7 @@ def spoilt(program):
     """Complaints about a program that lets a spoilt frame pass."""
     for index, case in enumerate(CASES):
         data = frame(case)
-        words = 1 if case.buffer is None else 3 + len(case.buffer)
+        words = sum(map(len, answer_words(case)))
         ends = [len(data) - 8 * k - 1 for k in {0, words // 2, words - 3, words - 2, words - 1} if 0 <= k]
         for at in (0, *ends):
             other = bytearray(data)

@@ -4,13 +4,16 @@
 //   kind 1, unpack: the input is the table's room in words (2 bytes) and the packed bytes; the answer is number, place and count (8 bytes each)
 //       and then every word of the table (8 bytes, two's complement), those that the call leaves alone too.
 //   kind 2, check: the input is the derived buffer's room (2 bytes) and the words of the plan (8 bytes each); the answer is as for kind 1.
-//   kinds 3 and 4 are kept for run and lookup; a frame of theirs is malformed until they come.
-// Word k of a buffer is 1000 + k before the call. Writes a line for each case that differs, is malformed or is cut short, and at last
+//   kind 3, run: the input is how many words the plan has, how many values and flags there are, and the rooms of the two result buffers (2 bytes
+//       each), then the words and the values (8 bytes each) and the flags (1 byte each); the answer is number, place and count, every word of the
+//       value buffer and every flag of the flag buffer (8 bytes each).
+// Before the call word k of a buffer is 1000 + k, and a flag is 9. Writes a line for each case that differs, is malformed or is cut short, and at last
 // `N passed, M failed`. No frame is passed over: the expected output carries the number of cases.
 // tests/tools/vectors.py writes the frames; `vectors.py --list` names the case of each index.
 use libc::STDIN_FILENO;
 use libc::STDOUT_FILENO;
 ghost use mathlib.Core.Path.{_≡_};
+ghost use mathlib.Core.Bool.{true};
 ghost use Prim.Native.Nat.{_+_, _*_, _<_, _≤_};
 ghost use lib.ListN.{length};
 
@@ -21,102 +24,23 @@ enum Finding {
     Malformed,
 }
 
-// A byte as a number.
-fn wide(b: u8) -> usize
-    ensures { λ r. ⌜ r < 256 ⌝ }
-{
-    b as usize
-}
-
-// The number in two bytes.
-fn two(s: &[u8], at: usize) -> usize
-    requires { ⌜ at + 2 ≤ length (now s) ⌝ }
-    ensures { λ r. ⌜ r < 65536 ⌝ }
-{
-    wide(s[at]) + 256 * wide(s[at + 1])
-}
-
-// The number in eight bytes.
-fn eight(s: &[u8], at: usize) -> usize
-    requires { ⌜ at + 8 ≤ length (now s) ⌝ }
-{
-    let low = two(s, at) + 65536 * two(s, at + 2);
-    let high = two(s, at + 4) + 65536 * two(s, at + 6);
-    low + 4294967296 * high
-}
-
-// A number as a word in two's complement.
-fn signed(n: usize) -> i64 {
-    if n < 9223372036854775808 {
-        return n as i64;
-    }
-    let below = (18446744073709551615 - n) as i64;
-    -1 - below
-}
-
-// The words in the bytes, into the table.
-fn read_words(s: &[u8], table: &mut [i64])
-    requires { ⌜ 8 * length (now table) ≤ length (now s) ⌝ }
-{
-    let mut i = 0;
-    while i < table.len() {
-        table[i] = signed(eight(s, 8 * i));
-        i += 1;
-    }
-}
-
-// The pattern that a buffer holds before a call.
-fn fill(buffer: &mut [i64])
-    requires { ⌜ length (now buffer) ≤ 8192 ⌝ }
-{
-    let mut i = 0;
-    while i < buffer.len() {
-        buffer[i] = (1000 + i) as i64;
-        i += 1;
-    }
-}
-
-// Whether the frame's answer begins with these three numbers.
-fn same_answer(a: plan::Answer, answer: &[u8]) -> bool
-    requires { ⌜ 24 ≤ length (now answer) ⌝ }
-{
-    let number = eight(answer, 0) as u64;
-    let place = eight(answer, 8) as u64;
-    let count = eight(answer, 16) as u64;
-    (number == a.number) & ((place == a.place) & (count == a.count))
-}
-
-// Whether the frame's answer goes on with the words of the buffer.
-fn same_words(buffer: &[i64], answer: &[u8]) -> bool
-    requires { ⌜ 24 + 8 * length (now buffer) ≤ length (now answer) ⌝ }
-{
-    let mut i = 0;
-    while i < buffer.len() {
-        if buffer[i] != signed(eight(answer, 24 + 8 * i)) {
-            return false;
-        }
-        i += 1;
-    }
-    true
-}
-
 // An unpack into the buffer.
 fn unpacks(bytes: &[u8], buffer: &mut [i64], answer: &[u8]) -> bool
     requires { ⌜ (length (now buffer) ≤ 8192) × (24 + 8 * length (now buffer) ≤ length (now answer)) ⌝ }
 {
-    fill(buffer);
+    framing::fill(buffer);
     let a = codec::unpack(bytes, buffer);
-    same_answer(a, answer) & same_words(&buffer[..], answer)
+    framing::same_answer(a, answer, 0) & framing::same_words(&buffer[..], answer, 24)
 }
 
 // A check of the words, by way of the table, into the buffer.
 fn checks(words: &[u8], table: &mut [i64], buffer: &mut [i64], answer: &[u8]) -> bool
     requires { ⌜ (8 * length (now table) ≤ length (now words)) × (length (now buffer) ≤ 8192) × (24 + 8 * length (now buffer) ≤ length (now answer)) ⌝ }
 {
-    read_words(words, table);
-    fill(buffer);
+    framing::read_words(words, table);
+    framing::fill(buffer);
     let a = verifier::check(&table[..], buffer);
-    same_answer(a, answer) & same_words(&buffer[..], answer)
+    framing::same_answer(a, answer, 0) & framing::same_words(&buffer[..], answer, 24)
 }
 
 // A comparison's finding.
@@ -156,7 +80,7 @@ fn buffer_case(kind: u8, input: &[u8], answer: &[u8]) -> Finding {
     if input.len() < 2 {
         return Finding::Malformed;
     }
-    let room = two(input, 0);
+    let room = framing::two(input, 0);
     if 8192 < room {
         return Finding::Malformed;
     }
@@ -172,15 +96,138 @@ fn buffer_case(kind: u8, input: &[u8], answer: &[u8]) -> Finding {
     Finding::Malformed
 }
 
+// How much of each the input of a run has, and the rooms of its result buffers.
+struct Sizes {
+    words: usize,
+    values: usize,
+    flags: usize,
+    room: usize,
+    flagroom: usize,
+}
+
+// The sizes at the front of the input.
+fn read_sizes(input: &[u8]) -> Sizes
+    requires { ⌜ 10 ≤ length (now input) ⌝ }
+    ensures { λ r. ⌜ (r .words < 65536) × (r .values < 65536) × (r .flags < 65536) × (r .room < 65536) × (r .flagroom < 65536) ⌝ }
+{
+    let words = framing::two(input, 0);
+    let values = framing::two(input, 2);
+    let flags = framing::two(input, 4);
+    let room = framing::two(input, 6);
+    let flagroom = framing::two(input, 8);
+    Sizes {
+        words: words,
+        values: values,
+        flags: flags,
+        room: room,
+        flagroom: flagroom,
+    }
+}
+
+// Whether a frame of these lengths holds them, and the program's buffers do.
+fn fits(z: Sizes, input: usize, answer: usize) -> bool
+    requires { ⌜ (z .words < 65536) × (z .values < 65536) × (z .flags < 65536) × (z .room < 65536) × (z .flagroom < 65536) ⌝ }
+    ensures { λ r. ⌜ (r ≡ true → (10 + 8 * z .words + 8 * z .values + z .flags ≤ input) × (24 + 8 * z .room + 8 * z .flagroom ≤ answer) × (z .words ≤ 8192) × (z .values ≤ 8192) × (z .room ≤ 8192) × (z .flagroom ≤ 8192)) ⌝ }
+{
+    if input != 10 + 8 * z.words + 8 * z.values + z.flags {
+        return false;
+    }
+    if answer != 24 + 8 * z.room + 8 * z.flagroom {
+        return false;
+    }
+    if 8192 < z.words {
+        return false;
+    }
+    if 8192 < z.values {
+        return false;
+    }
+    if 8192 < z.room {
+        return false;
+    }
+    z.flagroom <= 8192
+}
+
+// A run of the plan in the words on the values and the flags, by way of `table` and `given`, into the two result buffers; `wide` is room for the
+// flags as words.
+fn runs(
+    words: &[u8],
+    values: &[u8],
+    flags: &[u8],
+    table: &mut [i64],
+    given: &mut [i64],
+    out_values: &mut [i64],
+    out_flags: &mut [u8],
+    wide: &mut [i64],
+    answer: &[u8],
+) -> bool
+    requires { ⌜ (8 * length (now table) ≤ length (now words)) × (8 * length (now given) ≤ length (now values)) × (length (now «out_values») ≤ 8192) × (length (now «out_flags») ≤ 8192) × (length (now «out_flags») ≡ length (now wide)) × (24 + 8 * length (now «out_values») + 8 * length (now «out_flags») ≤ length (now answer)) ⌝ }
+{
+    framing::read_words(words, table);
+    framing::read_words(values, given);
+    framing::fill(out_values);
+    let a = running::run(&table[..], &given[..], flags, out_values, out_flags);
+    framing::widen(&out_flags[..], wide);
+    let end = 24 + 8 * out_values.len();
+    let same = framing::same_words(&out_values[..], answer, 24)
+        & framing::same_words(&wide[..], answer, end);
+    framing::same_answer(a, answer, 0) & same
+}
+
+// The run of a case: so many words and values after the sizes, and the rooms of the result buffers.
+fn run_parts(
+    input: &[u8],
+    answer: &[u8],
+    words: usize,
+    values: usize,
+    room: usize,
+    flagroom: usize,
+) -> Finding
+    requires { ⌜ (10 + 8 * words + 8 * values ≤ length (now input)) × (24 + 8 * room + 8 * flagroom ≤ length (now answer)) × (words ≤ 8192) × (values ≤ 8192) × (room ≤ 8192) × (flagroom ≤ 8192) ⌝ }
+{
+    let mut table = [0i64; 8192];
+    let mut given = [0i64; 8192];
+    let mut out_values = [0i64; 8192];
+    let mut out_flags = [9u8; 8192];
+    let mut wide = [0i64; 8192];
+    let second = 10 + 8 * words;
+    let third = second + 8 * values;
+    found(runs(
+        &input[10..second],
+        &input[second..third],
+        &input[third..],
+        &mut table[0..words],
+        &mut given[0..values],
+        &mut out_values[0..room],
+        &mut out_flags[0..flagroom],
+        &mut wide[0..flagroom],
+        answer,
+    ))
+}
+
+// A case of kind 3.
+fn run_case(input: &[u8], answer: &[u8]) -> Finding {
+    if input.len() < 10 {
+        return Finding::Malformed;
+    }
+    let z = read_sizes(input);
+    if fits(z, input.len(), answer.len()) {
+        return run_parts(input, answer, z.words, z.values, z.room, z.flagroom);
+    }
+    Finding::Malformed
+}
+
 // A case of any kind.
 fn any_case(kind: u8, input: &[u8], answer: &[u8]) -> Finding {
+    if kind == 3 {
+        return run_case(input, answer);
+    }
     if kind != 0 {
         return buffer_case(kind, input, answer);
     }
     if answer.len() != 8 {
         return Finding::Malformed;
     }
-    found(verifier::unpack_check(input) == eight(answer, 0) as u64)
+    found(verifier::unpack_check(input) == framing::eight(answer, 0) as u64)
 }
 
 // The case in a whole frame.
@@ -188,7 +235,7 @@ fn run_frame(f: &[u8]) -> Finding {
     if f.len() < 5 {
         return Finding::Malformed;
     }
-    let split = 5 + two(f, 1);
+    let split = 5 + framing::two(f, 1);
     if f.len() < split {
         return Finding::Malformed;
     }
@@ -203,7 +250,7 @@ fn frame_end(s: &[u8], at: usize) -> usize
     if s.len() - at < 5 {
         return s.len() + 1;
     }
-    at + 5 + two(s, at + 1) + two(s, at + 3)
+    at + 5 + framing::two(s, at + 1) + framing::two(s, at + 3)
 }
 
 // A line on a case that did not pass.
@@ -230,7 +277,7 @@ fn passes(s: &[u8], at: usize, end: usize, index: usize) -> bool
         }
         Finding::Different => {
             report(index, b" of kind ");
-            io::print_decimal(STDOUT_FILENO, wide(s[at]) as u64);
+            io::print_decimal(STDOUT_FILENO, framing::wide(s[at]) as u64);
             io::write_all(STDOUT_FILENO, b": differs\n");
         }
     }

@@ -7,8 +7,8 @@ use mir.Val.{SFits}
 use mir.ValLaws.{toZ-pos}
 use Rattle.laws.proofs.Machine.{arithM}
 use Rattle.laws.proofs.Parts.{diff-parts}
-use Rattle.vectors.proofs.signed.Statement.{statement}
-use Rattle.vectors.proofs.signed.Tie as tie
+use Rattle.framing.proofs.signed.Statement.{statement}
+use Rattle.framing.proofs.signed.Tie as tie
 
 upper-half : {n : ℕ} → 9223372036854775808 ≤ n → 18446744073709551615 - n < 2 ^ 63
 upper-half h = omega arith

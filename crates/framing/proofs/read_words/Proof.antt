@@ -1,29 +1,21 @@
 use Prim.Native.Nat.{_≤_, _-_}
+use mathlib.Core.Path.{_≡_}
 use borrow.Author.Needs.{needs}
 use lib.ListN.{length}
-use Rattle.vectors.proofs.same_words.Statement.{statement}
-use Rattle.vectors.proofs.same_words.Tie as tie
+use Rattle.framing.proofs.read_words.Statement.{statement}
+use Rattle.framing.proofs.read_words.Tie as tie
 
 abbrev Inv-loop : tie.InvT-loop
-Inv-loop buffer answer i₀ i = i ≤ length buffer
+Inv-loop s table₀ i₀ table i = (i ≤ length table₀) × (length table ≡ length table₀)
 
 abbrev μ-loop : tie.MeasureT-loop
-μ-loop buffer answer i₀ i = length buffer - i
+μ-loop s table₀ i₀ table i = length table₀ - i
 
 loop-holds : tie.Need-loop-holds Inv-loop μ-loop
 loop-holds c = search needs
 
-mul-if1 : tie.Need-mul-if1 Inv-loop μ-loop
-mul-if1 c = search needs
-
-shared-slice-copy-out-if1 : tie.Need-shared-slice-copy-out-if1 Inv-loop μ-loop
-shared-slice-copy-out-if1 c = search needs
-
 mul-eight : tie.Need-mul-eight Inv-loop μ-loop
 mul-eight c = search needs
-
-add-eight : tie.Need-add-eight Inv-loop μ-loop
-add-eight c = search needs
 
 eight-requires : tie.Need-eight-requires Inv-loop μ-loop
 eight-requires c κs = search needs
@@ -31,8 +23,11 @@ eight-requires c κs = search needs
 signed-requires : tie.Need-signed-requires Inv-loop μ-loop
 signed-requires c κs = search needs
 
-returns : tie.Need-returns Inv-loop μ-loop
-returns c = search needs
+mul-t8 : tie.Need-mul-t8 Inv-loop μ-loop
+mul-t8 c = search needs
+
+slice-set-from-table : tie.Need-slice-set-from-table Inv-loop μ-loop
+slice-set-from-table c = search needs
 
 add-i : tie.Need-add-i Inv-loop μ-loop
 add-i c = search needs
@@ -43,24 +38,26 @@ loop-less c = search needs
 loop-again : tie.Need-loop-again Inv-loop μ-loop
 loop-again c = search needs
 
-returns-2 : tie.Need-returns-2 Inv-loop μ-loop
-returns-2 c = search needs
+same-length : tie.Need-same-length Inv-loop μ-loop
+same-length c = search needs
 
-pub same-words-spec : {M : Type 1} → statement M
-same-words-spec =
+returns : tie.Need-returns Inv-loop μ-loop
+returns c = search needs
+
+pub read-words-spec : {M : Type 1} → statement M
+read-words-spec =
     tie.close
     (tie.spec
     Inv-loop
     μ-loop
     loop-holds
-    mul-if1
-    shared-slice-copy-out-if1
     mul-eight
-    add-eight
     eight-requires
     signed-requires
-    returns
+    mul-t8
+    slice-set-from-table
     add-i
     loop-less
     loop-again
-    returns-2)
+    same-length
+    returns)
