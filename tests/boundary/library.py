@@ -23,6 +23,13 @@ class Answer(ctypes.Structure):
         return self.number, self.place, self.count
 
 
+class Found(ctypes.Structure):
+    _fields_ = [(name, ctypes.c_uint64) for name in ('number', 'place', 'found', 'node', 'element')]
+
+    def five(self):
+        return self.number, self.place, self.found, self.node, self.element
+
+
 class Bytes:
     """Input bytes that end where a page begins that cannot be read: reading past them ends the process."""
 
@@ -97,6 +104,8 @@ class Library:
         self.calls.lup_unpack_check.restype = ctypes.c_uint64
         self.calls.lup_run.argtypes = [ctypes.c_void_p, ctypes.c_size_t] * 5
         self.calls.lup_run.restype = Answer
+        self.calls.lup_lookup.argtypes = [ctypes.c_void_p, ctypes.c_size_t, ctypes.c_uint64, ctypes.c_uint64]
+        self.calls.lup_lookup.restype = Found
         self.bytes = Bytes()
         self.inputs = [Bytes(40000), Bytes(MOST_INPUT_BYTES), Bytes(MOST_INPUT_BYTES)]
 
@@ -132,3 +141,10 @@ class Library:
         answer = self.calls.lup_run(*(argument for pair in zip(starts, rooms) for argument in pair)).triple()
         unchanged = all(memory.hold(data) for memory, data, _ in inputs) and all(result.guards_hold() for result in results)
         return answer, *(result.items() for result in results), unchanged
+
+    def lookup(self, plan, node, element):
+        """The five numbers of a lookup, and whether the plan is as it was. The words are an array of 'q' that ends where a page begins that
+        cannot be read; where there are none, NULL."""
+        data = plan.tobytes()
+        start = self.inputs[0].put(data) if data else None
+        return self.calls.lup_lookup(start, len(plan), node, element).five(), self.inputs[0].hold(data)

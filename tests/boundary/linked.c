@@ -135,10 +135,28 @@ static void run_examples(void) {
     expect(stays(values, 0) && flags_stay(flags, 0), "refused: both buffers as they were");
 }
 
+static int finds(lup_found f, uint64_t number, uint64_t found, uint64_t node, uint64_t element) {
+    return f.number == number && f.place == 0 && f.found == found && f.node == node && f.element == element;
+}
+
+static void lookup_examples(void) {
+    int64_t table[3 * 17];
+
+    small_plan(table);
+    expect(finds(lup_lookup(table, 3 * 17, 1, 2), 0, 1, 0, 1), "element 2 of the PAD: element 1 of the PARAM");
+    expect(finds(lup_lookup(table, 3 * 17, 1, 0), 0, 2, 0, 0), "element 0 of the PAD: a gap");
+    expect(finds(lup_lookup(table, 3 * 17, 2, 0), 0, 1, 2, 0), "the sum: itself");
+    expect(finds(lup_lookup(table, 3 * 17, 1, 4), 17, 0, 0, 0), "element 4 of four: refused 17");
+    expect(finds(lup_lookup(table, 3 * 17, 3, 0), 17, 0, 0, 0), "node 3 of three: refused 17");
+    expect(finds(lup_lookup(table, 3 * 17, UINT64_MAX, UINT64_MAX), 17, 0, 0, 0), "the greatest numbers: refused 17");
+    expect(finds(lup_lookup(NULL, 0, 0, 0), 1, 0, 0, 0), "no table: refused 1");
+}
+
 int main(void) {
     unpack_examples();
     check_examples();
     run_examples();
+    lookup_examples();
     printf("%u passed, %u failed\n", passed, failed);
     return failed != 0;
 }

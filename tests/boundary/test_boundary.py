@@ -1,5 +1,5 @@
 #!/usr/bin/env python3
-"""Drives the exports of the shared object, but for lup_run (test_run.py), against the independent model: answers, and buffers compared whole.
+"""Drives the exports of the shared object, but for lup_run (test_run.py) and lup_lookup (test_lookup.py), against the independent model: answers, and buffers compared whole.
 
 usage: test_boundary.py [COUNT] [SEED]     last line: 'N passed, 0 failed'
 """

@@ -6,9 +6,9 @@ usage: vectors.py             write both files
        vectors.py --list      a line for each case: index, call, name, answer
        vectors.py --spoilt PROGRAM    exit 1 unless the program finds each case that is spoilt
 
-Every expected answer here is written by hand from the sentence of 01 that is quoted above it; those of run are
-in tests/boundary/run_examples.py. The model of tests/model is only asked afterwards, and the script stops where
-it differs.
+Every expected answer here is written by hand from the sentence of 01 that is quoted above it; those of run and
+lookup are in tests/boundary (run_examples.py, lookup_examples.py). The model of tests/model is only asked
+afterwards, and the script stops where it differs.
 """
 import os
 import struct
@@ -19,6 +19,7 @@ from collections import namedtuple
 ROOT = os.path.dirname(os.path.dirname(os.path.dirname(os.path.abspath(__file__))))
 sys.path[:0] = [os.path.join(ROOT, 'tests', part) for part in ('model', 'boundary')]
 
+import lookup_examples
 import model
 import run_examples
 from cases import (BIG, LARGE, apply, const, fresh_words, large, move, node, pack, param,
@@ -33,7 +34,7 @@ KINDS = {'unpack_check': 0, 'unpack': 1, 'check': 2, 'run': 3, 'lookup': 4}
 BOOL, U8, I16, I32 = range(4)
 FRESH_FLAG = 9
 
-# answer: (number, place, count), of unpack_check one number. buffer: every word afterwards, None where the
+# answer: (number, place, count), of unpack_check one number, of lookup five. buffer: every word afterwards, None where the
 # call has none; of a run those of the values and then the flags.
 Case = namedtuple('Case', 'call name source answer buffer')
 
@@ -846,7 +847,9 @@ def run_case(example):
 
 
 RUNS = [run_case(example) for example in run_examples.EXAMPLES]
-CASES = [*UNPACKED, *BYTES_REFUSED, *BYTE_ORDER, *CHECKS, *ONE_CALL, *packed_too(CHECKS), *RUNS]
+LOOKUPS = [Case('lookup', f'lookup: {example.name}', example, example.reply, None)
+           for example in lookup_examples.EXAMPLES]
+CASES = [*UNPACKED, *BYTES_REFUSED, *BYTE_ORDER, *CHECKS, *ONE_CALL, *packed_too(CHECKS), *RUNS, *LOOKUPS]
 
 # ------------------------------------------------------------------ the files
 
@@ -861,6 +864,8 @@ def source_bytes(case):
         table, values, flags, rooms = case.source.table, case.source.values, case.source.flags, case.source.rooms
         sizes = struct.pack('<5H', len(table), len(values), len(flags), *rooms)
         return sizes + word_bytes(table) + word_bytes(values) + bytes(flags)
+    if case.call == 'lookup':
+        return struct.pack('<2Q', case.source.node, case.source.element) + word_bytes(case.source.table)
     if case.call == 'unpack_check':
         return case.source
     data = word_bytes(case.source) if case.call == 'check' else case.source
@@ -886,6 +891,8 @@ def of_model(case):
         values, flags = buffer[:example.rooms[0]], buffer[example.rooms[0]:]
         answer = model.run(example.table, example.values, example.flags, values, flags)
         return case._replace(answer=tuple(answer), buffer=values + flags)
+    if case.call == 'lookup':
+        return case._replace(answer=tuple(model.lookup(case.source.table, case.source.node, case.source.element)))
     buffer = None if case.buffer is None else fresh_words(len(case.buffer))
     arguments = (case.source,) if buffer is None else (case.source, buffer)
     answer = getattr(model, case.call)(*arguments)
@@ -899,8 +906,8 @@ def problems():
         if other != case:
             words = 'the same words' if other.buffer == case.buffer else 'other words'
             yield f'{case.call}, {case.name}: the model answers {other.answer}, not {case.answer}; {words}'
-    numbers = {case.answer[0] for case in CASES if case.buffer is not None}
-    missing = {*range(17), *range(20, 25)} - numbers
+    numbers = {case.answer[0] for case in CASES if case.call != 'unpack_check'}
+    missing = {*range(18), *range(20, 25)} - numbers
     if missing:
         yield f'no case of {sorted(missing)}'
     every = {(a, b) for a in range(2, 12) for b in range(a + 1, 12)}

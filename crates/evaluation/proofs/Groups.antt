@@ -10,7 +10,7 @@ use Rattle.laws.specs.Lists.{allBelow, among}
 use Rattle.laws.specs.Numbering.{count}
 use Rattle.laws.proofs.Booleans.{and-true, all-below}
 use Rattle.plan.specs.declared.Node.{Node}
-use Rattle.plan.specs.Operations.{CONST, PERMUTE, FLIP, RESHAPE, EXPAND, PAD, SHRINK, CAST, ADD, MUL, MAX, IDIV, MOD, CMPLT, CMPNE, AND, OR, WHERE, REDUCE, LOAD, binaries, uses, operationCount, byOperation}
+use Rattle.plan.specs.Operations.{CONST, PERMUTE, FLIP, RESHAPE, EXPAND, PAD, SHRINK, CAST, ADD, MUL, MAX, IDIV, MOD, CMPLT, CMPNE, AND, OR, WHERE, REDUCE, LOAD, followed, binaries, uses, operationCount, byOperation}
 use Rattle.plan.specs.Words.{listOf}
 use Rattle.plan.proofs.ByOperation.{_then_, for-group}
 use Rattle.shapes.specs.Rows.{extentsOf}
@@ -62,12 +62,22 @@ pub reduce-uses : (op : ℕ) → op ≡ REDUCE → uses op 1 ≡ true
 unfolding uses among
 reduce-uses op q = rw q refl
 
+-- what is left of the operations that a lookup follows back
+pub followed-viewed : (op : ℕ) → among op followed ≡ true → (op ≡ 6 → ⊥) → (eqb op 4 || eqb op 20) ≡ false → among op viewed ≡ true
+unfolding among
+followed-viewed op h =
+    for-group (λ (op : ℕ). (op ≡ 6 → ⊥) → (eqb op 4 || eqb op 20) ≡ false → among op viewed ≡ true) op followed
+    ((λ a b. refl) then (λ a b. refl) then (λ a b. absurd (false≢true (sym b))) then (λ a b. refl) then (λ a b. absurd (a refl)) then (λ a b. refl) then (λ a b. absurd (false≢true (sym b))) then tt) h
+
 -- the three groups that move cells
 pub moves-viewed : (op : ℕ) → among op moves ≡ true → (op ≡ 6 → ⊥) → (eqb op 4 || (eqb op 8 || eqb op 20)) ≡ false → among op viewed ≡ true
 unfolding among
-moves-viewed op h =
-    for-group (λ (op : ℕ). (op ≡ 6 → ⊥) → (eqb op 4 || (eqb op 8 || eqb op 20)) ≡ false → among op viewed ≡ true) op moves
-    ((λ a b. absurd (false≢true (sym b))) then (λ a b. refl) then (λ a b. refl) then (λ a b. absurd (false≢true (sym b))) then (λ a b. refl) then (λ a b. absurd (a refl)) then (λ a b. refl) then (λ a b. absurd (false≢true (sym b))) then tt) h
+moves-viewed op h a b = let rest = go (eqb op 4) (eqb op 8) (eqb op 20) (among op followed) h b in followed-viewed op (rest .0) a (rest .1)
+  where
+    go : (a b c d : Bool) → (b || d) ≡ true → (a || (b || c)) ≡ false → (d ≡ true) × ((a || c) ≡ false)
+    go true b c d h e = absurd (false≢true (sym e))
+    go false true c d h e = absurd (false≢true (sym e))
+    go false false c d h e = (h, e)
 
 pub moves-copied : (op : ℕ) → (eqb op 4 || (eqb op 8 || eqb op 20)) ≡ true → among op copied ≡ true
 unfolding among
@@ -80,7 +90,7 @@ moves-copied op h = go (eqb op 4) (eqb op 8) (eqb op 20) h
     go false false false e = e
 
 -- a source that there is not
-proper-none : Proper []
+pub proper-none : Proper []
 unfolding count
 proper-none = record { positive = positive-none; ranked = omega arith; few = omega arith }
 

@@ -93,9 +93,13 @@ module _ (x : Node) (s r : List ℕ) (S R O : Row) (p : Padded x s r) (under : I
         narrow = (omega (arith, n0), omega (arith, n1), omega (arith, n2), omega (arith, n3));
       }
 
+  -- where element e of the result finds its source's
+  pub pad-place : (base e : ℕ) → e < count r → bandPlace R O S base e ≡ from base (padSource s r (listOf (x .rowb)) e)
+  pad-place base e h = pad-places s r S R O (x .rowb) base under over words rule e h
+
   module _ (base : ℕ) (o : Operands) (vs : List ℤ) (fs : List ℕ) (start : ℕ) (source : Source vs fs base s (o .a)) where
     place-is : (e : ℕ) → e < count r → bandPlace R O S base e ≡ from base (padSource (o .a .extents) r (listOf (x .rowb)) e)
-    place-is e h = rw (source .shape) (pad-places s r S R O (x .rowb) base under over words rule e h)
+    place-is e h = rw (source .shape) (pad-place base e h)
 
     pub pad-evaluates : {vs′ : List ℤ} {fs′ : List ℕ} → vs′ ≡ padded (pos 0) vs R O S base start → fs′ ≡ padded 0 fs R O S base start → Evaluates x r o vs fs start vs′ fs′
     pad-evaluates ev ef =

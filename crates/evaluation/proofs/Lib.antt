@@ -4,3 +4,4 @@ pub mod Leaves
 pub mod Mixed
 pub mod Gathered
 pub mod Groups
+pub mod Turns

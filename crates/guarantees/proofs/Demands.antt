@@ -25,6 +25,7 @@ use Rattle.verifier.specs.Check.{lengthRight}
 use Rattle.verifier.specs.Meets.{NodesMeet, PlanMeets}
 use Rattle.verifier.proofs.Accepted.{accepted-meets}
 use Rattle.verifier.proofs.Nodes.{source2-before}
+use Rattle.verifier.proofs.Numbers.{Several, few-nodes}
 use Rattle.cells.specs.Cells.{Field}
 use Rattle.runner.specs.Inputs.{inputStart, inputTotal, declared, inputLimits, inputCells}
 use Rattle.runner.specs.Run.{noField, fieldsOf, runAnswer, valuesAfter, flagsAfter, valueOf, flagOf, gapCount}
@@ -34,7 +35,6 @@ use Rattle.runner.proofs.Sound.{Fed, in-bounds, in-range, no-zero-divisor}
 use Rattle.runner.proofs.Completes.{run-completes}
 use Rattle.runner.proofs.Gaps.{gaps-hide}
 use Rattle.guarantees.specs.Demand3.{Lent, ran, answer, valuesThen, flagsThen, word, elements, elementsBefore, fieldAt, resultAt, output, Proper, Completes, SafeDivisors, Safe, SameKnown, SameEnd, Demand3}
-use Rattle.guarantees.proofs.Packed.{Several, few-nodes}
 use Rattle.guarantees.proofs.Buffers.{Counted, total-past, total-length, element-at, node-part, gaps-counted, flags-counted}
 
 -- ---- the words of a node

@@ -1,32 +1,27 @@
 -- A lookup finds the cell that every run has at the element asked.
 use Prim.Native.Nat.{ℕ, zero, suc, _<_, _≤_}
-use mathlib.Core.Path.{_≡_, refl, ap, sym, _∙_, subst}
-use mathlib.Core.Bool.{Bool, true, false}
-use mathlib.Core.Logic.{_⊎_, inl, inr}
+use mathlib.Core.Path.{_≡_, refl, sym, _∙_}
+use mathlib.Core.Bool.{true}
+use mathlib.Core.Logic.{inl, inr}
 use mathlib.Core.Option.{Option, none, some}
-use mathlib.Core.List.{List, []}
+use mathlib.Core.List.{List}
 use native.Mathlib.Omega.{arith}
 use native.Mathlib.Nat.{not-suc-le-zero}
 use lib.IntN.{ℤ}
-use lib.ListN.{length, getD, take}
+use lib.ListN.{length, getD}
 use Rattle.laws.specs.Lists.{among}
-use Rattle.laws.specs.Numbering.{count}
 use Rattle.laws.proofs.Booleans.{bool-cases}
 use Rattle.plan.specs.declared.Node.{Node}
 use Rattle.plan.specs.declared.NodeNumber.{NodeNumber}
 use Rattle.plan.specs.declared.ElementNumber.{ElementNumber}
-use Rattle.plan.specs.Operations.{followed, uses, byOperation}
-use Rattle.plan.specs.Words.{nodeAt, nodeCount}
-use Rattle.plan.specs.Answers.{Outcome, accepted}
+use Rattle.plan.specs.Operations.{followed, byOperation}
+use Rattle.plan.specs.Words.{nodeAt}
+use Rattle.plan.specs.Answers.{accepted}
 use Rattle.plan.proofs.ByOperation.{_then_, for-group, followed-uses}
 use Rattle.shapes.specs.Sources.{sourceElement, Below}
-use Rattle.shapes.proofs.Sources.{source-below}
-use Rattle.rules.specs.Rules.{Derived, noSource, sourceOf}
-use Rattle.verifier.specs.Check.{verdict, first, countOf}
-use Rattle.verifier.specs.Meets.{NodeMeets, NodesMeet, PlanMeets}
-use Rattle.verifier.proofs.Accepted.{accepted-meets}
-use Rattle.verifier.proofs.Nodes.{source1-before, source-is, permutation-row, shapes-agree, extents-derived}
-use Rattle.cells.specs.Cells.{Cell, gap, Field, cellAt, cellFrom}
+use Rattle.rules.specs.Rules.{Derived}
+use Rattle.verifier.specs.Check.{verdict, countOf}
+use Rattle.cells.specs.Cells.{Cell, gap, Field, cellFrom}
 use Rattle.cells.specs.Nodes.{Operands, cellRules, evalCell}
 use Rattle.runner.specs.Inputs.{inputCells}
 use Rattle.runner.specs.Run.{noField, operandsOf, fieldsTo, fieldsOf}
@@ -35,7 +30,7 @@ use Rattle.runner.proofs.Completes.{run-fields}
 use Rattle.lookup.specs.declared.Found.{Found}
 use Rattle.lookup.specs.declared.Found.the-variants.{At, Gap}
 use Rattle.lookup.specs.Following.{recordOf, fromSource, follow}
-use Rattle.lookup.proofs.Steps.{follow-back, follow-here, lookup-finds, none-pads}
+use Rattle.lookup.proofs.Steps.{follow-back, follow-here, source-earlier, source-inside, lookup-finds, none-pads}
 use Rattle.guarantees.specs.Lookups.{cellOf, SameCell, PaddedGap, LookupSays, LookupAgrees}
 
 -- a followed node's cell is its source's
@@ -55,42 +50,20 @@ module _ (t : List ℤ) (ds : List Derived) (v : verdict t ≡ accepted ds) (inp
   abbrev fields : List Field
   fields = fieldsTo t ds input (length ds)
 
-  plan : PlanMeets t ds
-  plan = accepted-meets t ds v
-
   -- ---- one node back
 
   module _ (n : NodeNumber) (h : n .0 < length ds) (f : among (nodeAt t (n .0) .op) followed ≡ true) where
     abbrev x : Node
     x = nodeAt t (n .0)
 
-    rules : NodeMeets t (n .0) (take (n .0) ds) (recordOf ds n)
-    rules = plan .nodes .each (n .0) (rw (plan .nodes .as-many) at h)
-
-    earlier : nodeAt t (n .0) .source1 .0 < n .0
-    earlier = source1-before t (n .0) (take (n .0) ds) (recordOf ds n) rules (followed-uses (x .op) f)
-
-    source : first (nodeAt t (n .0)) (take (n .0) ds) ≡ recordOf ds (nodeAt t (n .0) .source1)
-    source = source-is ds (n .0) (x .op) 1 (x .source1) (followed-uses (x .op) f) earlier
-
     module _ (e : ElementNumber) (l : e .0 < countOf (recordOf ds n)) where
-      abbrev from : Option ElementNumber
-      from = sourceElement x (recordOf ds (x .source1) .extents) (recordOf ds n .extents) e
-
-      inside : Below (countOf (recordOf ds (nodeAt t (n .0) .source1)))
-          (sourceElement (nodeAt t (n .0)) (recordOf ds (nodeAt t (n .0) .source1) .extents) (recordOf ds n .extents) e)
-      inside =
-          rw source at
-          (source-below x _ _ _ (recordOf ds n .extents) e (shapes-agree t (n .0) (take (n .0) ds) (recordOf ds n) rules) (extents-derived t (n .0) (take (n .0) ds) (recordOf ds n) rules)
-          (permutation-row t (n .0) (take (n .0) ds) (recordOf ds n) rules) l f)
-
       one-back : cellOf (fieldsTo t ds input (length ds)) n e
           ≡ cellFrom (getD (fieldsTo t ds input (length ds)) (nodeAt t (n .0) .source1 .0) noField)
           (sourceElement (nodeAt t (n .0)) (recordOf ds (nodeAt t (n .0) .source1) .extents) (recordOf ds n .extents) e)
       unfolding operandsOf
       one-back =
-          let g = source-field t ds input (length ds) (n .0) (x .op) 1 (x .source1) (omega arith) (followed-uses (x .op) f) earlier in
-          let s = field-extents t ds input (length ds) (x .source1 .0) (omega (arith, earlier)) in
+          let g = source-field t ds input (length ds) (n .0) (x .op) 1 (x .source1) (omega arith) (followed-uses (x .op) f) (source-earlier t ds v n h f) in
+          let s = field-extents t ds input (length ds) (x .source1 .0) (omega (arith, source-earlier t ds v n h f)) in
           field-cell t ds input (length ds) (n .0) h e l
           ∙ followed-cell x (recordOf ds n .extents) (operandsOf t ds input (n .0) (fieldsTo t ds input (n .0))) e f
           ∙ rw (g, s) refl
@@ -124,13 +97,13 @@ module _ (t : List ℤ) (ds : List Derived) (v : verdict t ≡ accepted ds) (inp
       through f ih none q b c =
           record { pad = n; at = e; is-pad = none-pads (nodeAt t (n .0)) _ _ e f q; not-after = omega arith; there = l; from-nowhere = q; is-gap = c }
       through f ih (some o) q b c =
-          let s = earlier n h f in
+          let s = source-earlier t ds v n h f in
           passed-on n (nodeAt t (n .0) .source1) e o (follow k t ds (nodeAt t (n .0) .source1) o) (omega arith) c (ih (nodeAt t (n .0) .source1) o (omega arith) (omega arith) b)
 
       go : (f : among (nodeAt t (n .0) .op) followed ≡ true) → Reaches k
           → Agrees t ds (fieldsTo t ds input (length ds)) n e
           (fromSource (sourceElement (nodeAt t (n .0)) (recordOf ds (nodeAt t (n .0) .source1) .extents) (recordOf ds n .extents) e) (follow k t ds (nodeAt t (n .0) .source1)))
-      go f ih = through f ih _ refl (inside n h f e l) (one-back n h f e l)
+      go f ih = through f ih _ refl (source-inside t ds v n h f e l) (one-back n h f e l)
 
 -- ---- by the answer's numbers
 

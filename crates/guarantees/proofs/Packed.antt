@@ -1,25 +1,23 @@
 -- Packed plans are short, their first bytes decide, and the C call's numbers can be told apart.
-use Prim.Native.Nat.{ℕ, _%_, _≤_, _<_}
+use Prim.Native.Nat.{ℕ, _≤_, _<_}
 use mathlib.Core.Path.{_≡_, refl, subst}
-use mathlib.Core.Bool.{true, false}
-use mathlib.Core.List.{List, [], _∷_}
+use mathlib.Core.List.{List}
 use native.Mathlib.Omega.{arith}
-use borrow.Author.Tests.{leb-true, ltb-true, ltb-false}
+use borrow.Author.Tests.{ltb-true, ltb-false}
 use lib.IntN.{ℤ}
-use lib.Dec.{eqb, leb, ltb}
+use lib.Dec.{ltb}
 use lib.ListN.{length, take}
 use lib.Seq.{getD-take, length-take-le, take-all}
-use Rattle.laws.proofs.Booleans.{bool-cases, and-true}
-use Rattle.plan.specs.Words.{nodeCount}
-use Rattle.plan.specs.Answers.{Refusal, Outcome, accepted, refused, Rule, rule, FirstFailing, here, later}
+use Rattle.laws.proofs.Booleans.{bool-cases}
+use Rattle.plan.specs.Answers.{Outcome, accepted, refused}
 use Rattle.codec.specs.Plans.{unpack}
 use Rattle.codec.proofs.Bounds.{Holds, holds-then}
 use Rattle.codec.proofs.Prefix.{PlacedTo, Whole, planLimit, plan-ends, plan-same}
 use Rattle.rules.specs.Rules.{Derived}
-use Rattle.verifier.specs.Check.{nodeRules, lengthRight, verdict, Checked, unpackCheck}
+use Rattle.verifier.specs.Check.{verdict, Checked, unpackCheck}
 use Rattle.verifier.specs.Listing.{textOf, readLimit, listing}
-use Rattle.verifier.specs.Meets.{Refuses, bad-length, bad-node, too-many}
 use Rattle.verifier.proofs.Accepted.{accepted-meets, refused-because}
+use Rattle.verifier.proofs.Numbers.{Several, few-nodes, refusal-numbered}
 use Rattle.guarantees.specs.Packed.{PlansAreShort, FirstBytesDecide, ToldApart}
 
 pub plans-are-short : PlansAreShort
@@ -50,37 +48,6 @@ first-listing s = rw (first-check s) refl
 pub first-bytes-decide : FirstBytesDecide
 first-bytes-decide = record { of-check = first-check; of-listing = first-listing }
 
--- ---- the check's numbers
-
--- every rule has a number from 1 on, and so has the first that fails
-abbrev Numbered : List Rule → Type 0
-Numbered [] = Unit
-Numbered (rule number test ∷ rules) = (1 ≤ number) × Numbered rules
-
-first-numbered : {number : ℕ} (rules : List Rule) → Numbered rules → FirstFailing rules number → 1 ≤ number
-first-numbered (rule number false ∷ rules) h here = h .0
-first-numbered (rule number true ∷ rules) h (later f) = first-numbered rules (h .1) f
-
-nodes-numbered : (t : List ℤ) (n : ℕ) (ds : List Derived) → Numbered (nodeRules t n ds)
-unfolding nodeRules
-nodes-numbered t n ds = omega arith
-
--- "1 to 256 nodes"
-abbrev pub Several : ℕ → Type 0
-Several n = (1 ≤ n) × (n ≤ 256)
-
-pub few-nodes : (t : List ℤ) → lengthRight t ≡ true → Several (nodeCount t)
-unfolding lengthRight
-few-nodes t e =
-    let b = and-true (leb 1 (nodeCount t)) (leb (nodeCount t) 256) (and-true (eqb (length t % 17) 0) _ e .1) in
-    (leb-true 1 (nodeCount t) (b .0), leb-true (nodeCount t) 256 (b .1))
-
--- a refusal of the check names a node, or 0
-refusal-placed : (t : List ℤ) (r : Refusal) → Refuses t r → PlacedTo planLimit r
-refusal-placed t r (bad-length e) = (omega arith, omega arith)
-refusal-placed t r (bad-node {n} {ds} e l m f) = (first-numbered (nodeRules t n ds) (nodes-numbered t n ds) f, omega (arith, few-nodes t e .1))
-refusal-placed t r (too-many e m l) = (omega arith, omega arith)
-
 -- ---- the answer
 
 -- the records of 1 to 256 nodes
@@ -92,7 +59,7 @@ check-placed t = by (verdict t) refl
   where
     by : (o : Outcome (List Derived)) → verdict t ≡ o → Holds Records (PlacedTo planLimit) o
     by (accepted ds) e = let m = accepted-meets t ds e in rw (m .nodes .as-many) (few-nodes t (m .length-right))
-    by (refused r) e = refusal-placed t r (refused-because t r e)
+    by (refused r) e = let q = refusal-numbered t r (refused-because t r e) in (q .0 .0, omega (arith, q .1))
 
 -- such records, or a refusal with a number and a place
 abbrev Answered : Outcome Checked → Type 0

@@ -1,4 +1,5 @@
 pub mod Reading
 pub mod Sizes
+pub mod Limits
 pub mod Scans
 pub mod Gaps

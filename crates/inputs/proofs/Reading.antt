@@ -1,10 +1,9 @@
 -- Signed numbers as the code reads them, by their bits: what was found of the number read holds of the number.
 use Prim.Native.Nat.{ℕ}
 use mathlib.Core.Path.{_≡_}
-use mathlib.Core.Bool.{Bool, _&&_, _||_}
+use mathlib.Core.Bool.{Bool, _&&_}
 use mathlib.Core.List.{List}
-use lib.Dec.{eqb, leb}
-use lib.IntN.{ℤ}
+use lib.IntN.{ℤ, pos, _+ℤ_}
 use lib.Signed.{leZ}
 use mir.Syntax.{w64}
 use mir.Val.{SFits}
@@ -21,11 +20,9 @@ pub inside-read : {t : Bool} (value low high : ℤ) → SFits w64 value → SFit
     → (leZ (R low) (R value) && leZ (R value) (R high)) ≡ t → (leZ low value && leZ value high) ≡ t
 inside-read value low high v l h e = rw (R-is v, R-is l, R-is h) at e
 
--- the same beside the tests of the flag
-pub good-read : {t : Bool} (flag : ℕ) (value low high : ℤ) → SFits w64 value → SFits w64 low → SFits w64 high
-    → (leb flag 1 && (eqb flag 0 || (leZ (R low) (R value) && leZ (R value) (R high)))) ≡ t
-    → (leb flag 1 && (eqb flag 0 || (leZ low value && leZ value high))) ≡ t
-good-read flag value low high v l h e = rw (R-is v, R-is l, R-is h) at e
+-- a number lifted
+pub lifted-read : {m : ℕ} (x : ℤ) → SFits w64 x → pos m ≡ R x +ℤ pos 9223372036854775808 → pos m ≡ x +ℤ pos 9223372036854775808
+lifted-read x f e = rw (R-is f) at e
 
 -- the number at a position, tested and as a cell
 module _ (value : ℤ) (flag : ℕ) (v : SFits w64 value) where

@@ -1,17 +1,19 @@
 -- 15 and 16 at one position, at the positions of one node, and at all.
-use Prim.Native.Nat.{ℕ, zero, suc, _+_, _<_, _≤_}
+use Prim.Native.Nat.{ℕ, zero, suc, _+_, _^_, _<_, _≤_}
 use mathlib.Core.Path.{_≡_, refl, _∙_}
-use mathlib.Core.Bool.{Bool, true, false, _&&_, _||_}
+use mathlib.Core.Bool.{Bool, true, false, _&&_}
+use mathlib.Core.Logic.{⊎-elim}
 use mathlib.Core.List.{List}
-use native.Mathlib.Nat.{add-zero, add-suc}
+use native.Mathlib.Nat.{add-zero, add-suc, eq-or-lt-of-le}
 use native.Mathlib.Numerals.{add-one}
 use native.Mathlib.Omega.{arith}
 use borrow.Author.Tests.{eq-eqb, ne-eqb, lt-leb, eqb-true, eqb-false, leb-true}
+use lib.Bits.{bitOr}
 use lib.Dec.{eqb, leb}
 use lib.IntN.{ℤ, pos}
 use lib.ListN.{length, getD}
 use lib.Signed.{leZ}
-use Rattle.laws.proofs.Booleans.{bool-cases, and-true, or-true}
+use Rattle.laws.proofs.Booleans.{bool-cases, and-true}
 use Rattle.plan.specs.declared.Interval.{Interval}
 use Rattle.plan.specs.Types.{between, holds}
 use Rattle.plan.specs.Answers.{Outcome, accepted, refuse, inTurn}
@@ -19,6 +21,7 @@ use Rattle.plan.proofs.Outcomes.{turn-more, turn-stays, turn-same}
 use Rattle.runner.specs.Inputs.{testInput, testAt, testInputs}
 use Rattle.inputs.specs.Nodes.{testPart}
 use Rattle.inputs.specs.Scanning.{scanned}
+use Rattle.inputs.proofs.Limits.{or-below}
 
 -- ---- one position
 
@@ -39,14 +42,9 @@ module _ (flag : ℕ) (value low high : ℤ) (p : ℕ) where
   unfolding testInput
   no-flag a b = rw (lt-leb flag 1 (omega (arith, a, b))) refl
 
-  -- both tests at once
-  flag-inside : flag ≤ 1 → (leZ low value && leZ value high) ≡ true → testInput (between low high) value flag p ≡ accepted tt
+  -- a flag that is 0 or 1, and a number inside
+  pub flag-inside : flag ≤ 1 → (leZ low value && leZ value high) ≡ true → testInput (between low high) value flag p ≡ accepted tt
   flag-inside l h = bool-cases (eqb flag 1) (λ k. known-inside (eqb-true flag 1 k) h) (λ k. gap-passes (omega (arith, l, eqb-false flag 1 k)))
-
-  pub good-passes : (leb flag 1 && (eqb flag 0 || (leZ low value && leZ value high))) ≡ true → testInput (between low high) value flag p ≡ accepted tt
-  good-passes e =
-      let both = and-true (leb flag 1) (eqb flag 0 || (leZ low value && leZ value high)) e in
-      or-true (eqb flag 0) (leZ low value && leZ value high) (both .1) (λ z. gap-passes (eqb-true flag 0 z)) (flag-inside (leb-true flag 1 (both .0)))
 
 -- ---- what was found, as an outcome and back
 
@@ -94,11 +92,18 @@ module _ (limits : Interval) (values : List ℤ) (flags : List ℕ) (from : ℕ)
     pub part-stops : (n : ℕ) → i < n → (number ≡ 0 → ⊥) → testPart limits values flags from n ≡ scanned number place
     part-stops n l z = turn-stops _ i n number place l e f z
 
-  -- one position more where both the first i and it are told to be good
-  pub part-good : (all ok : Bool) (i : ℕ) → (all ≡ true → testPart limits values flags from i ≡ accepted tt)
-      → (ok ≡ true → testInput limits (getD values (from + i) (pos 0)) (getD flags (from + i) 0) (from + i) ≡ accepted tt) → (all && ok) ≡ true
+  -- one position more where neither the first i nor it has the highest bit
+  pub part-good : (found here i : ℕ) → (found < 2 ^ 63 → testPart limits values flags from i ≡ accepted tt)
+      → (here < 2 ^ 63 → testInput limits (getD values (from + i) (pos 0)) (getD flags (from + i) 0) (from + i) ≡ accepted tt) → bitOr found here < 2 ^ 63
       → testPart limits values flags from (i + 1) ≡ accepted tt
-  part-good all ok i f g e = let both = and-true all ok e in part-more i 0 (from + i) (f (both .0)) (g (both .1)) refl
+  part-good found here i f g e = let both = or-below found here (2 ^ 63) e in part-more i 0 (from + i) (f (both .0)) (g (both .1)) refl
+
+-- one flag more that is 0 or 1
+pub flags-more : (flags : List ℕ) (from i : ℕ) (all : Bool) → (all ≡ true → (k : ℕ) → k < i → getD flags (from + k) 0 ≤ 1)
+    → (all && leb (getD flags (from + i) 0) 1) ≡ true → (k : ℕ) → k < i + 1 → getD flags (from + k) 0 ≤ 1
+flags-more flags from i all f e k h =
+    let both = and-true all (leb (getD flags (from + i) 0) 1) e in
+    ⊎-elim (λ (p : k ≡ i). rw p (leb-true (getD flags (from + i) 0) 1 (both .1))) (λ (p : k < i). f (both .0) k p) (eq-or-lt-of-le (omega arith))
 
 -- ---- all positions
 

@@ -2,7 +2,9 @@
 ghost use mathlib.Core.Path.{_≡_};
 ghost use mathlib.Core.Bool.{true, cond};
 ghost use mathlib.Core.List.{[], _∷_};
-ghost use Prim.Native.Nat.{ℕ, _+_, _*_, _≤_, _<_};
+ghost use Prim.Native.Nat.{ℕ, _+_, _*_, _^_, _≤_, _<_};
+ghost use lib.IntN.{pos, _+ℤ_};
+ghost use lib.Signed.{_≤ℤ_};
 ghost use lib.Dec.{eqb};
 ghost use lib.ListN.{length, getD, take};
 ghost use Rattle.laws.specs.Lists.{among};
@@ -84,11 +86,57 @@ fn fault(flag: u8, value: i64, low: i64, high: i64) -> u64
     16
 }
 
-// Nothing is wrong at one position, told without a branch. The number under a gap decides nothing.
-fn good(flag: u8, value: i64, low: i64, high: i64) -> bool
-    ensures { λ r. ⌜ ((p : ℕ) → r ≡ true → testInput (between low high) value flag p ≡ accepted tt) ⌝ }
+// How far a number lies above the least one of 64 bits.
+fn lifted(x: i64) -> u64
+    ensures { λ r. ⌜ pos r ≡ x +ℤ pos 9223372036854775808 ⌝ }
 {
-    (flag <= 1) & ((flag == 0) | ((low <= value) & (value <= high)))
+    if x < 0 {
+        return (x + 9223372036854775807 + 1) as u64;
+    }
+    x as u64 + 9223372036854775808
+}
+
+// Below 2^63 only where the cell is a gap or its number lies in low..high: both differences from the limits are, which the machine finds for
+// several cells at once, as it does not for comparisons of 64 bits. The number under a gap decides nothing.
+fn miss(flag: u8, value: i64, low: i64, high: i64) -> u64
+    requires { ⌜ low ≤ℤ high ⌝ }
+    ensures { λ r. ⌜ (r < 2 ^ 63 → flag ≤ 1 → (p : ℕ) → testInput (between low high) value flag p ≡ accepted tt) ⌝ }
+{
+    let first = lifted(low);
+    let width = lifted(high) - first;
+    let over = std::num::wrapping_sub_u64(lifted(value), first);
+    let left = if flag == 0 { 0 } else { over };
+    left | std::num::wrapping_sub_u64(width, left)
+}
+
+// n flags are 0 or 1.
+fn flags_good(flags: &[u8], from: usize, n: usize) -> bool
+    requires { ⌜ from + n ≤ length (now flags) ⌝ }
+    ensures { λ r. ⌜ (r ≡ true → (k : ℕ) → k < n → getD (now (flags .entry)) (from + k) 0 ≤ 1) ⌝ }
+{
+    let mut all = true;
+    let mut i = 0;
+    while i < n {
+        all = all & (flags[from + i] <= 1);
+        i += 1;
+    }
+    all
+}
+
+// Nothing is wrong at n positions of one PARAM whose flags are 0 or 1.
+fn values_good(values: &[i64], flags: &[u8], from: usize, n: usize, low: i64, high: i64) -> bool
+    requires { ⌜ (from + n ≤ length (now values)) × (from + n ≤ length (now flags)) × (low ≤ℤ high) × ((k : ℕ) → k < n → getD (now flags) (from + k) 0 ≤ 1) ⌝ }
+    ensures { λ r. ⌜ (r ≡ true → testPart (between low high) (now (values .entry)) (now (flags .entry)) from n ≡ accepted tt) ⌝ }
+{
+    let mut found = 0u64;
+    let mut i = 0;
+    while i < n {
+        let p = from + i;
+        let here = miss(flags[p], values[p], low, high);
+        found = found | here;
+        i += 1;
+    }
+    found < 9223372036854775808
 }
 
 // Nothing is wrong at n positions of one PARAM, told without a branch at any of them.
@@ -96,15 +144,13 @@ fn all_good(values: &[i64], flags: &[u8], from: usize, n: usize, low: i64, high:
     requires { ⌜ (from + n ≤ length (now values)) × (from + n ≤ length (now flags)) ⌝ }
     ensures { λ r. ⌜ (r ≡ true → testPart (between low high) (now (values .entry)) (now (flags .entry)) from n ≡ accepted tt) ⌝ }
 {
-    let mut all = true;
-    let mut i = 0;
-    while i < n {
-        let p = from + i;
-        let ok = good(flags[p], values[p], low, high);
-        all = all & ok;
-        i += 1;
+    if high < low {
+        return false;
     }
-    all
+    if flags_good(flags, from, n) {
+        return values_good(values, flags, from, n, low, high);
+    }
+    false
 }
 
 // The first bad one of n positions of one PARAM, sought one by one.

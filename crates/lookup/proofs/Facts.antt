@@ -4,21 +4,13 @@ use mathlib.Core.Path.{_≡_, refl}
 use mathlib.Core.List.{List, [], _∷_, map}
 use lib.IntN.{ℤ, pos}
 use Rattle.laws.specs.Lists.{concat}
-use Rattle.plan.specs.declared.Answer.{Answer}
 use Rattle.plan.specs.Operations.{PERMUTE, FLIP, RESHAPE, PAD, SHRINK, ADD}
 use Rattle.plan.specs.Words.{node, element}
-use Rattle.plan.specs.Answers.{Outcome}
 use Rattle.verifier.proofs.Facts.{checking, constant, param, on, move, cast, load}
-use Rattle.lookup.specs.declared.Found.{Found}
-use Rattle.lookup.specs.Following.{lookup, lookupAnswer, foundKind, foundNode, foundElement}
+use Rattle.lookup.specs.declared.Reply.{Reply}
+use Rattle.lookup.specs.Following.{lookup, replyOf}
 
--- what a lookup answers; whether it found a place or a gap; the place
-pub record Reply : Type 0 where
-  pub answer : Answer
-  pub kind : ℕ
-  pub node : ℕ
-  pub element : ℕ
-
+-- what a lookup answers, and what the paper says
 pub data Fact : Type 0 where
   _is_ : Reply → Reply → Fact
 
@@ -29,24 +21,19 @@ asked (a is b) = a
 abbrev said : Fact → Reply
 said (a is b) = b
 
-abbrev replyOf : Outcome Found → Reply
-replyOf o = record { answer = lookupAnswer o; kind = foundKind o; node = foundNode o; element = foundElement o }
-
 -- where element e of node n of this plan comes from
 abbrev origin : List (List ℤ) → ℕ → ℕ → Reply
 origin nodes n e = replyOf (lookup (concat nodes) (node n) (element e))
 
-abbrev zero : Answer
-zero = record { number = 0; place = 0; count = 0 }
-
+-- a place, a gap and a refusal
 abbrev place : ℕ → ℕ → Reply
-place n e = record { answer = zero; kind = 1; node = n; element = e }
+place n e = record { number = 0; place = 0; found = 1; node = n; element = e }
 
 abbrev gap : Reply
-gap = record { answer = zero; kind = 2; node = 0; element = 0 }
+gap = record { number = 0; place = 0; found = 2; node = 0; element = 0 }
 
 abbrev refusal : ℕ → ℕ → Reply
-refusal number place = record { answer = record { number = number; place = place; count = 0 }; kind = 0; node = 0; element = 0 }
+refusal number place = record { number = number; place = place; found = 0; node = 0; element = 0 }
 
 -- PERMUTE (1,0) of 2x3
 abbrev turned : List (List ℤ)

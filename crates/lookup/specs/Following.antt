@@ -19,6 +19,7 @@ use Rattle.verifier.specs.Check.{verdict, countOf}
 use Rattle.lookup.specs.declared.Place.{Place}
 use Rattle.lookup.specs.declared.Found.{Found}
 use Rattle.lookup.specs.declared.Found.the-variants.{At, Gap}
+use Rattle.lookup.specs.declared.Reply.{Reply}
 
 -- "its answer is either a place (node with element) or a gap"
 abbrev pub foundAt : NodeNumber → ElementNumber → Found
@@ -71,3 +72,8 @@ abbrev pub foundElement : Outcome Found → ℕ
 foundElement (accepted (At p)) = p .element .0
 foundElement (accepted Gap) = 0
 foundElement (refused r) = 0
+
+-- all of them together
+abbrev pub replyOf : Outcome Found → Reply
+replyOf o =
+    record { number = lookupAnswer o .number; place = lookupAnswer o .place; found = foundKind o; node = foundNode o; element = foundElement o }

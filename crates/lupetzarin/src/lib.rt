@@ -2,6 +2,7 @@
 ghost use mathlib.Core.Path.{_≡_};
 ghost use lib.ListN.{length};
 ghost use Rattle.codec.specs.Plans.{unpack, unpackAnswer, tableAfter};
+ghost use Rattle.lookup.specs.Following.{lookup, replyOf};
 ghost use Rattle.runner.specs.Run.{run, runAnswer, valuesAfter, flagsAfter};
 ghost use Rattle.verifier.specs.Check.{check, checkAnswer, derivedAfter, unpackCheck, codeOf};
 
@@ -42,4 +43,16 @@ pub extern "C" fn lup_run(
     ensures { λ r. ⌜ (r ≡ runAnswer (run (now (table .entry)) (now (values .entry)) (now (flags .entry)) (length (now («out_values» .entry))) (length (now («out_flags» .entry))))) × (now («out_values» .exit) ≡ valuesAfter (run (now (table .entry)) (now (values .entry)) (now (flags .entry)) (length (now («out_values» .entry))) (length (now («out_flags» .entry)))) (now («out_values» .entry))) × (now («out_flags» .exit) ≡ flagsAfter (run (now (table .entry)) (now (values .entry)) (now (flags .entry)) (length (now («out_values» .entry))) (length (now («out_flags» .entry)))) (now («out_flags» .entry))) ⌝ }
 {
     running::run(table, values, flags, out_values, out_flags)
+}
+
+// The place that an element of a node comes from, or a gap: the check's refusals, then 17 where there is no such node or element.
+#[no_mangle]
+pub extern "C" fn lup_lookup(table: &[i64], node: u64, element: u64) -> lookup::Reply
+    ensures { λ r. ⌜ r ≡ replyOf (lookup (now (table .entry)) (record { 0 = node }) (record { 0 = element })) ⌝ }
+{
+    following::reply(following::lookup(
+        table,
+        plan::NodeNumber(node as usize),
+        plan::ElementNumber(element as usize),
+    ))
 }

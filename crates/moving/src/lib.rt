@@ -106,7 +106,7 @@ pub fn move_flags(flags: &mut [u8], g: Row, v: View, rows: usize, start: usize)
 }
 
 // Coordinate c lies among the n from o on.
-fn in_band(o: usize, n: usize, c: usize) -> bool
+pub fn in_band(o: usize, n: usize, c: usize) -> bool
     requires { ⌜ o + n < 2 ^ 63 ⌝ }
     ensures { λ r. ⌜ r ≡ inBand o n c ⌝ }
 {
@@ -114,7 +114,7 @@ fn in_band(o: usize, n: usize, c: usize) -> bool
 }
 
 // Row i of a result of grid r has cells of a source of grid s laid at offsets o.
-fn row_inside(r: Row, o: Row, s: Row, i: usize) -> bool
+pub fn row_inside(r: Row, o: Row, s: Row, i: usize) -> bool
     requires { ⌜ Laid r o s × (i < rowsOf r) ⌝ }
     ensures { λ b. ⌜ b ≡ rowInside r o s i ⌝ }
 {
@@ -128,7 +128,7 @@ fn row_inside(r: Row, o: Row, s: Row, i: usize) -> bool
 }
 
 // Where the source's cells of row i begin.
-fn row_start(r: Row, o: Row, s: Row, base: usize, i: usize) -> usize
+pub fn row_start(r: Row, o: Row, s: Row, base: usize, i: usize) -> usize
     requires { ⌜ Laid r o s × (i < rowsOf r) × (rowInside r o s i ≡ true) × (base + cellsOf s < 2 ^ 63) ⌝ }
     ensures { λ p. ⌜ (p ≡ rowStart r o s base i) × (p + s .r3 ≤ base + cellsOf s) ⌝ }
 {

@@ -1,29 +1,25 @@
 -- What the check and the scan have found of a plan and its input, as the run asks for it.
-use Prim.Native.Nat.{ℕ, zero, suc, _+_, _*_, _/_, _%_, _<_, _≤_}
+use Prim.Native.Nat.{ℕ, zero, suc, _+_, _*_, _/_, _<_, _≤_}
 use mathlib.Core.Path.{_≡_, sym, _∙_, subst}
 use mathlib.Core.Bool.{true}
-use mathlib.Core.List.{List, []}
+use mathlib.Core.List.{List}
 use native.Mathlib.Omega.{arith}
-use borrow.Author.Tests.{leb-true}
 use lib.IntN.{ℤ, pos}
-use lib.Dec.{eqb, leb}
 use lib.ListN.{length, getD, take}
-use Rattle.laws.specs.Numbering.{count}
-use Rattle.laws.proofs.Booleans.{and-true}
 use Rattle.laws.proofs.Machine.{Small}
 use Rattle.laws.proofs.Parts.{arithℤ}
 use Rattle.plan.specs.declared.Interval.{Interval}
 use Rattle.plan.specs.Operations.{PARAM}
 use Rattle.plan.specs.Types.{between, contains, rangeOf}
 use Rattle.plan.specs.Words.{nodeAt, element, nodeCount}
-use Rattle.shapes.proofs.Extents.{no-extents}
 use Rattle.bounds.proofs.Sound.{In, wider}
 use Rattle.rules.specs.declared.Record.{Record}
 use Rattle.rules.specs.Rules.{Derived, noSource}
-use Rattle.verifier.specs.Check.{countOf, totalOf, totalLimit, lengthRight}
+use Rattle.verifier.specs.Check.{countOf, totalOf, totalLimit}
 use Rattle.verifier.specs.Meets.{NodesMeet, PlanMeets}
 use Rattle.verifier.proofs.Accepted.{accepted-meets}
-use Rattle.verifier.proofs.Nodes.{in-type, few-elements, extents-at}
+use Rattle.verifier.proofs.Numbers.{few-nodes}
+use Rattle.verifier.proofs.Nodes.{in-type, few-elements}
 use Rattle.verifier.proofs.Ending.{right-length}
 use Rattle.cells.specs.Cells.{Cell, known, gap}
 use Rattle.cells.proofs.Sound.{Bounded}
@@ -34,7 +30,6 @@ use Rattle.runner.proofs.Inputs.{limits-length, limits-at, start-more, tests-pa
 use Rattle.runner.proofs.Sound as sound
 use Rattle.inputs.specs.Nodes.{nodesOf, Limited}
 use Rattle.inputs.proofs.Sizes.{nodes-length}
-use Rattle.evaluation.specs.Ready.{Proper}
 use Rattle.running.specs.Running.{Checked, Fed}
 use Rattle.running.proofs.EndToEnd.{cellsAt, all-have}
 
@@ -57,10 +52,6 @@ bounded-small dtype b gap e w = small-zero
 bounded-small dtype b (known z) e w = range-small dtype z (wider (rangeOf dtype) b z e w)
 
 -- ---- the nodes
-
-pub proper-none : Proper []
-unfolding count
-proper-none = record { positive = no-extents .positive; ranked = no-extents .ranked; few = omega arith }
 
 module _ (t : List ℤ) (records : List Record) (n : ℕ) (checked : Checked t records n) where
   abbrev nodes : List Derived
@@ -86,19 +77,10 @@ module _ (t : List ℤ) (records : List Record) (n : ℕ) (checked : Checked t r
   table-long = let c : length t / 17 ≡ n = counted in rw (← c) (right-length t (plan .length-right) .0)
 
   pub some-node : 0 < n
-  unfolding lengthRight nodeCount
-  some-node =
-      let c : length t / 17 ≡ n = counted in
-      let e = plan .length-right in
-      omega (arith, c, leb-true 1 (length t / 17) (and-true (leb 1 (length t / 17)) _ (and-true (eqb (length t % 17) 0) _ e .1) .0))
+  some-node = omega (arith, counted, few-nodes t (plan .length-right) .0)
 
   pub limited : Limited (nodesOf records n) n
   limited i l = few-elements t i (take i nodes) (getD nodes i noSource) (nodes-meet .each i l)
-
-  pub proper-at : (i : ℕ) → i < n → Proper (getD (nodesOf records n) i noSource .extents)
-  proper-at i l =
-      let e = extents-at t n nodes nodes-meet i l in
-      record { positive = e .positive; ranked = e .ranked; few = limited i l }
 
   -- ---- the input
 

@@ -17,16 +17,16 @@ use Rattle.laws.proofs.Store.{store-hit}
 use Rattle.plan.specs.declared.Node.{Node}
 use Rattle.plan.specs.declared.NodeNumber.{NodeNumber}
 use Rattle.plan.specs.Operations.{PARAM, uses, masks}
-use Rattle.plan.specs.Words.{nodeAt, paramsBefore}
+use Rattle.plan.specs.Words.{nodeAt}
 use Rattle.shapes.specs.Shown.{shown}
 use Rattle.shapes.proofs.Extents.{some-element}
 use Rattle.rules.specs.declared.Record.{Record}
 use Rattle.rules.specs.Rules.{Derived, noSource, sourceOf}
-use Rattle.verifier.specs.Check.{first, second, third, countOf, totalOf}
+use Rattle.verifier.specs.Check.{countOf, totalOf}
 use Rattle.rules.specs.Code.{Masked, viewOf}
 use Rattle.verifier.specs.Meets.{NodeMeets}
 use Rattle.rules.proofs.EarlyRules.{bit-uses}
-use Rattle.verifier.proofs.Nodes.{op-known, source1-before, source2-before, source3-before, shapes-agree, extents-derived, source-has, source-is}
+use Rattle.verifier.proofs.Nodes.{op-known, source1-before, source2-before, source3-before, source-is}
 use Rattle.cells.specs.Cells.{Cell, gap}
 use Rattle.cells.specs.Nodes.{Operands}
 use Rattle.runner.specs.Inputs.{inputStart, inputCell, inputCells}
@@ -34,10 +34,11 @@ use Rattle.runner.specs.Run.{fieldOf, operandsOf, nodeField, fieldsTo, valueOf,
 use Rattle.runner.proofs.Fields.{field-at}
 use Rattle.inputs.specs.Nodes.{nodesOf}
 use Rattle.evaluation.specs.Standing.{Source, Evaluates, Room, Given}
-use Rattle.evaluation.specs.Ready.{Proper, Right, Ready, Reads}
+use Rattle.evaluation.specs.Ready.{Right, Ready, Reads}
+use Rattle.evaluation.proofs.Turns.{proper-at, node-right}
 use Rattle.running.specs.Running.{laidTo, Checked, Fed, Places}
 use Rattle.running.proofs.EndToEnd.{total-more, total-whole, laid-more, laid-read, laid-length}
-use Rattle.running.proofs.Plans.{as-many, nodes-meet, proper-none, proper-at, input-inside, all-small}
+use Rattle.running.proofs.Plans.{as-many, nodes-meet, input-inside, all-small}
 
 -- ---- a source as the code picks it
 
@@ -111,9 +112,6 @@ module _ (t : List ℤ) (records : List Record) (n : ℕ) (checked : Checked t r
         picks records n i (checked .long) (checked .few) l starts begin d₃ op mask 3 (nodeAt t i .source3) place₃ m (omega arith) (sources-earlier .2) (rw q at at₃) (c .0) (c .1),
       )
 
-  source-proper : (k : ℕ) (s : NodeNumber) → Proper (sourceOf (take i (nodesOf records n)) (nodeAt t i .op) k s .extents)
-  source-proper k s = source-has (λ (d : Derived). Proper (d .extents)) nodes i proper-none (λ j h. proper-at t records n checked j (omega arith)) (nodeAt t i .op) k s
-
   -- its place among all, and the cells before it
   own-room : totalOf (take i (nodesOf records n)) + countOf (getD (nodesOf records n) i noSource) ≤ totalOf (nodesOf records n)
   own-room = total-whole nodes i (omega (arith, as-many t records n checked))
@@ -144,7 +142,7 @@ module _ (t : List ℤ) (records : List Record) (n : ℕ) (checked : Checked t r
     room : Room (getD (nodesOf records n) i noSource .extents) (totalOf (take i (nodesOf records n))) vs fs
     room =
         record {
-          some = some-element (getD nodes i noSource .extents) (proper-at t records n checked i l .positive);
+          some = some-element (getD nodes i noSource .extents) (proper-at t n nodes (nodes-meet t records n checked) i l .positive);
           values = rw (laid-length t nodes input valueOf vs₀ i laid-values) (omega (arith, own-room, places .value-room));
           flags = rw (laid-length t nodes input flagOf fs₀ i laid-flags) (omega (arith, own-room, places .flag-room));
         }
@@ -178,18 +176,7 @@ module _ (t : List ℤ) (records : List Record) (n : ℕ) (checked : Checked t r
         (second-is : Picks (nodesOf records n) i (nodeAt t i .op) 2 (nodeAt t i .source2) sb pb) (third-is : Picks (nodesOf records n) i (nodeAt t i .op) 3 (nodeAt t i .source3) sc pc) where
       right : Right (nodeAt t i) sa sb sc (getD (nodesOf records n) i noSource .extents)
       right =
-          rw (first-is .shape, second-is .shape, third-is .shape)
-          (record {
-            params = paramsBefore t i;
-            known = op-known t i (take i nodes) (getD nodes i noSource) rules;
-            rows = rules .rule7;
-            shapes = shapes-agree t i (take i nodes) (getD nodes i noSource) rules;
-            result = extents-derived t i (take i nodes) (getD nodes i noSource) rules;
-            first = source-proper 1 (nodeAt t i .source1);
-            second = source-proper 2 (nodeAt t i .source2);
-            third = source-proper 3 (nodeAt t i .source3);
-            whole = proper-at t records n checked i l;
-          })
+          rw (first-is .shape, second-is .shape, third-is .shape) (node-right t n nodes (nodes-meet t records n checked) i l)
 
       -- what evaluation asks for
       pub ready : {x : Node} {r : List ℕ} {from start : ℕ} → x ≡ nodeAt t i → r ≡ getD (nodesOf records n) i noSource .extents → from ≡ inputStart t (nodesOf records n) i → start ≡ totalOf (take i (nodesOf records n))

@@ -7,11 +7,14 @@
 //   kind 3, run: the input is how many words the plan has, how many values and flags there are, and the rooms of the two result buffers (2 bytes
 //       each), then the words and the values (8 bytes each) and the flags (1 byte each); the answer is number, place and count, every word of the
 //       value buffer and every flag of the flag buffer (8 bytes each).
+//   kind 4, lookup: the input is the node and the element (8 bytes each) and the words of the plan; the answer is its five numbers (8 bytes each).
 // Before the call word k of a buffer is 1000 + k, and a flag is 9. Writes a line for each case that differs, is malformed or is cut short, and at last
 // `N passed, M failed`. No frame is passed over: the expected output carries the number of cases.
 // tests/tools/vectors.py writes the frames; `vectors.py --list` names the case of each index.
 use libc::STDIN_FILENO;
 use libc::STDOUT_FILENO;
+use plan::ElementNumber;
+use plan::NodeNumber;
 ghost use mathlib.Core.Path.{_≡_};
 ghost use mathlib.Core.Bool.{true};
 ghost use Prim.Native.Nat.{_+_, _*_, _<_, _≤_};
@@ -216,8 +219,55 @@ fn run_case(input: &[u8], answer: &[u8]) -> Finding {
     Finding::Malformed
 }
 
+// Whether the frame's answer is these five numbers.
+fn same_reply(r: lookup::Reply, answer: &[u8]) -> bool
+    requires { ⌜ 40 ≤ length (now answer) ⌝ }
+{
+    let number = framing::eight(answer, 0) as u64;
+    let place = framing::eight(answer, 8) as u64;
+    let found = framing::eight(answer, 16) as u64;
+    let node = framing::eight(answer, 24) as u64;
+    let element = framing::eight(answer, 32) as u64;
+    let refusal = (number == r.number) & (place == r.place);
+    let finding = (found == r.found) & ((node == r.node) & (element == r.element));
+    refusal & finding
+}
+
+// A lookup in the plan in the words, by way of the table.
+fn looks(words: &[u8], table: &mut [i64], node: usize, element: usize, answer: &[u8]) -> bool
+    requires { ⌜ (8 * length (now table) ≤ length (now words)) × (40 ≤ length (now answer)) ⌝ }
+{
+    framing::read_words(words, table);
+    let found = following::lookup(&table[..], NodeNumber(node), ElementNumber(element));
+    same_reply(following::reply(found), answer)
+}
+
+// A case of kind 4.
+fn lookup_case(input: &[u8], answer: &[u8]) -> Finding {
+    if input.len() < 16 {
+        return Finding::Malformed;
+    }
+    if answer.len() != 40 {
+        return Finding::Malformed;
+    }
+    let count = (input.len() - 16) / 8;
+    if 8192 < count {
+        return Finding::Malformed;
+    }
+    if input.len() % 8 != 0 {
+        return Finding::Malformed;
+    }
+    let mut table = [0i64; 8192];
+    let node = framing::eight(input, 0);
+    let element = framing::eight(input, 8);
+    found(looks(&input[16..], &mut table[0..count], node, element, answer))
+}
+
 // A case of any kind.
 fn any_case(kind: u8, input: &[u8], answer: &[u8]) -> Finding {
+    if kind == 4 {
+        return lookup_case(input, answer);
+    }
     if kind == 3 {
         return run_case(input, answer);
     }

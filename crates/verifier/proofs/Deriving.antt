@@ -1,13 +1,13 @@
 -- The loop over the nodes: what is known before node i, and each way on from it.
 use Prim.Native.Nat.{ℕ, zero, suc, _+_, _<_, _≤_, _^_, _/_, _%_}
 use mathlib.Core.Path.{_≡_, refl, sym, ap, _∙_}
-use mathlib.Core.Bool.{Bool, true, false, _&&_, cond}
+use mathlib.Core.Bool.{Bool, true, false, cond}
 use mathlib.Core.List.{List, [], _∷_, _++_, map, map-append}
 use native.Mathlib.Omega.{arith}
 use native.Mathlib.Numerals.{add-one}
 use borrow.Author.Tests.{ltb-true, leb-true, ne-eqb}
 use lib.IntN.{ℤ}
-use lib.Dec.{eqb, leb}
+use lib.Dec.{eqb}
 use lib.ListN.{length, getD, set, take, length-set, length-map}
 use lib.Seq.{take-suc-set, getD-take, length-take-le}
 use Rattle.laws.specs.Lists.{sum}
@@ -18,7 +18,7 @@ use Rattle.plan.specs.declared.Node.{Node}
 use Rattle.plan.specs.declared.NodeNumber.{NodeNumber}
 use Rattle.plan.specs.Operations.{uses, masks}
 use Rattle.plan.specs.Words.{nodeAt, overParams, paramsBefore}
-use Rattle.plan.specs.Answers.{Outcome, accepted, refuse, Rule, rule, inTurn, AllHold, FirstFailing, here, later}
+use Rattle.plan.specs.Answers.{Outcome, accepted, refuse, inTurn, AllHold, FirstFailing, here}
 use Rattle.plan.proofs.Outcomes.{first-front, first-back, all-both, order-fails, order-holds, turn-more, turn-stays}
 use Rattle.shapes.specs.Rules.{elementLimit, shapesAgree, resultExtents}
 use Rattle.rules.specs.declared.Record.{Record}
@@ -29,23 +29,9 @@ use Rattle.verifier.specs.Check.{first, second, third, deriveNode, nodeR
 use Rattle.rules.specs.Code.{Masked, viewOf, earlyRulesOf, shapeRulesOf, valueRulesOf, Judges, Early}
 use Rattle.verifier.specs.Verdicts.{Derives}
 use Rattle.verifier.proofs.Accepted.{checked-meets}
+use Rattle.verifier.proofs.Numbers.{InRange, number-of}
 use Rattle.verifier.proofs.Nodes.{few-elements, source-has, sources-before}
 use Rattle.rules.proofs.EarlyRules.{bit-uses}
-
--- ---- the number of a rule
-
-abbrev numbered : List Rule → Bool
-numbered [] = true
-numbered (rule number test ∷ rules) = (leb 1 number && leb number 12) && numbered rules
-
-abbrev InRange : ℕ → Type 0
-InRange number = (1 ≤ number) × (number ≤ 12)
-
-number-of : (rules : List Rule) (number : ℕ) → numbered rules ≡ true → FirstFailing rules number → InRange number
-number-of (rule k false ∷ rules) number n here =
-    let this = and-true (leb 1 k) (leb k 12) (and-true (leb 1 k && leb k 12) (numbered rules) n .0) in
-    (leb-true 1 k (this .0), leb-true k 12 (this .1))
-number-of (rule k true ∷ rules) number n (later f) = number-of rules number (and-true (leb 1 k && leb k 12) (numbered rules) n .1) f
 
 -- the check of n nodes ends with this number at node i
 pub record Stops (t : List ℤ) (n number i : ℕ) : Type 0 where

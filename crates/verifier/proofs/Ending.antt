@@ -1,18 +1,16 @@
 -- The ways in which the check of a plan ends.
-use Prim.Native.Nat.{ℕ, _*_, _/_, _%_, _<_, _≤_}
+use Prim.Native.Nat.{ℕ, _*_, _/_, _<_, _≤_}
 use mathlib.Core.Path.{_≡_, refl, _∙_}
 use mathlib.Core.Bool.{true, false}
 use mathlib.Core.List.{List}
 use native.Mathlib.Omega.{arith}
-use borrow.Author.Tests.{leb-true, le-leb, lt-leb, eq-eqb, ne-eqb}
+use borrow.Author.Tests.{le-leb, lt-leb, eq-eqb, ne-eqb}
 use lib.IntN.{ℤ}
-use lib.Dec.{eqb, leb}
 use lib.ListN.{length, take, length-map}
 use lib.Seq.{length-take-le}
-use Rattle.laws.proofs.Booleans.{and-true}
 use Rattle.plan.specs.declared.Answer.{Answer}
 use Rattle.plan.specs.Words.{nodeCount}
-use Rattle.plan.specs.Answers.{Outcome, accepted, refused, refuse}
+use Rattle.plan.specs.Answers.{Outcome, accepted, refuse}
 use Rattle.rules.specs.declared.Record.{Record}
 use Rattle.verifier.specs.declared.Derivation.{Derivation}
 use Rattle.rules.specs.Rules.{Derived}
@@ -20,6 +18,7 @@ use Rattle.verifier.specs.Check.{lengthRight, totalOf, verdict, check, c
 use Rattle.rules.specs.Code.{viewOf}
 use Rattle.verifier.specs.Verdicts.{recordsOf, Derives}
 use Rattle.verifier.specs.Verdicts.{Ends}
+use Rattle.verifier.proofs.Numbers.{few-nodes}
 
 -- a refusal of the whole plan
 abbrev pub refusal : ℕ → List Record → Derivation
@@ -32,8 +31,8 @@ module _ (t : List ℤ) where
 
   module _ (e : lengthRight t ≡ true) where
     pub right-length : (17 * (length t / 17) ≤ length t) × (length t / 17 ≤ 256)
-    unfolding lengthRight nodeCount
-    right-length = (omega arith, leb-true (length t / 17) 256 (and-true (leb 1 (length t / 17)) _ (and-true (eqb (length t % 17) 0) _ e .1) .1))
+    unfolding nodeCount
+    right-length = (omega arith, few-nodes t e .1)
 
     module _ {r : Derivation} (d : Derives t (length t / 17) r) where
       small : (r .number ≤ 12) × (r .place ≤ 256)

@@ -1,4 +1,5 @@
 pub mod Accepted
+pub mod Numbers
 pub mod Nodes
 pub mod Facts
 pub mod Deriving
