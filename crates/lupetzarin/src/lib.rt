@@ -1,4 +1,4 @@
-// The C library: each export is one call of the proved crate behind it. `include/lupetzarin.h` declares them.
+// The C library: each export calls the proved crate behind it. `include/lupetzarin.h` declares them.
 ghost use mathlib.Core.Path.{_≡_};
 ghost use lib.ListN.{length};
 ghost use Rattle.codec.specs.Plans.{unpack, unpackAnswer, tableAfter};
