@@ -1,9 +1,10 @@
 # make        builds into build/: the archive liblupetzarin.a, the shared object liblupetzarin.so and the program list
 # make test   proves every crate, then runs the tests outside Rattle; its last line is 'N passed, 0 failed'
 # make linked a C program over the header and the archive; its last line is 'N passed, 0 failed'
+# make fuzz   every export on random and mutated inputs, FUZZ_SECONDS long (60); FUZZ_SEED chooses them
 # make demo   the main job on example data
 # make bench  speed, as ratios measured in one run
-.PHONY: all test linked demo bench clean
+.PHONY: all test linked fuzz demo bench clean
 .DELETE_ON_ERROR:
 
 CC = gcc
@@ -33,6 +34,9 @@ $(LIST): $(SOURCES)
 build/linked: tests/boundary/linked.c $(HEADER) $(ARCHIVE)
 	$(CC) $(CFLAGS) -Werror -Iinclude -o $@ tests/boundary/linked.c $(ARCHIVE)
 
+build/fuzz: tests/fuzz/fuzz.c $(HEADER) $(ARCHIVE)
+	$(CC) $(CFLAGS) -Werror -O2 -Iinclude -o $@ tests/fuzz/fuzz.c $(ARCHIVE)
+
 build/bench: bench/bench.c bench/plain.c bench/plain.h $(HEADER) $(ARCHIVE)
 	$(CC) $(CFLAGS) -O3 -Iinclude -o $@ bench/bench.c bench/plain.c $(ARCHIVE)
 
@@ -47,6 +51,11 @@ test:
 
 linked: build/linked
 	@build/linked
+
+FUZZ_SECONDS = 60
+FUZZ_SEED = 1
+fuzz: build/fuzz
+	@build/fuzz $(FUZZ_SECONDS) $(FUZZ_SEED)
 
 demo:
 	@echo "demo: nothing to show yet; it comes with the host program (issue 6)"

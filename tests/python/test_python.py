@@ -1,0 +1,141 @@
+#!/usr/bin/env python3
+"""The Python module against the independent model, with numpy where it is there and without it.
+
+usage: test_python.py [COUNT] [SEED]     last line: 'N passed, 0 failed'
+"""
+
+import importlib
+import os
+import sys
+from array import array
+from math import prod
+from random import Random
+
+sys.dont_write_bytecode = True
+ROOT = os.path.dirname(os.path.dirname(os.path.dirname(os.path.abspath(__file__))))
+sys.path[:0] = [os.path.join(ROOT, part) for part in ('python', 'tests/model', 'tests/boundary')]
+
+import cases  # noqa: E402
+import lookup_examples  # noqa: E402
+import model  # noqa: E402
+import run_cases  # noqa: E402
+import run_examples  # noqa: E402
+
+
+class Tally:
+    def __init__(self):
+        self.passed, self.failed = 0, 0
+
+    def same(self, what, got, wanted):
+        if got == wanted:
+            self.passed += 1
+            return
+        self.failed += 1
+        if self.failed <= 20:
+            print(f'{what}: got {got!r}, wanted {wanted!r}'[:600])
+
+
+def modules():
+    """The module as it is imported here, and once more where numpy cannot be imported."""
+    first = importlib.import_module('lupetzarin')
+    yield 'with numpy' if first.numpy else 'numpy is not here', first
+    if first.numpy:
+        kept = sys.modules.pop('numpy')
+        sys.modules['numpy'] = None
+        del sys.modules['lupetzarin']
+        yield 'without numpy', importlib.import_module('lupetzarin')
+        sys.modules['numpy'] = kept
+
+
+def told(lup, call, *arguments):
+    """What a call gives, or number and place of its refusal."""
+    try:
+        return call(*arguments)
+    except lup.Refused as refusal:
+        return refusal.number, refusal.place
+
+
+def outcome(answer):
+    return answer[:2] if answer[0] else None
+
+
+def given(lup, rng, values, code):
+    """The same numbers as a list, an array, or a numpy array."""
+    forms = [values, array(code, values)]
+    if lup.numpy:
+        forms.append(lup.numpy.array(values, 'int64' if code == 'q' else 'uint8'))
+    return rng.choice(forms)
+
+
+def test_run(tally, lup, rng, table, values, flags):
+    number, records = model.verdict(table)
+    total = 0 if number else sum(prod(record.extents) for record in records)
+    wanted_values, wanted_flags = [0] * total, [0] * total
+    answer = model.run(table, values, flags, wanted_values, wanted_flags)
+    got = told(lup, lup.run, given(lup, rng, table, 'q'), given(lup, rng, values, 'q'), given(lup, rng, flags, 'B'))
+    if answer[0]:
+        tally.same('a run refused', got, tuple(answer[:2]))
+        return
+    tally.same('values', list(got.values), wanted_values)
+    tally.same('flags', list(got.flags), wanted_flags)
+    tally.same('gaps', got.gaps, answer[2])
+    tally.same('slices', [part.stop - part.start for part in got.nodes], [prod(record.extents) for record in records])
+
+
+def test_plan(tally, lup, rng, table):
+    data = cases.pack(table)
+    tally.same('unpack', list(lup.unpack(data)), table)
+    number, rest = model.verdict(table)
+    wanted = (number, rest) if number else [tuple(record) for record in rest]
+    got = told(lup, lup.check, given(lup, rng, table, 'q'))
+    tally.same('check', got if number else [tuple(record) for record in got], wanted)
+    tally.same('unpack_check', told(lup, lup.unpack_check, data), (number, rest) if number else len(rest))
+
+
+def test_module(tally, lup, rng, count):
+    for example in run_examples.EXAMPLES:
+        if example.answer[0] != 14:
+            test_run(tally, lup, rng, example.table, example.values, example.flags)
+    for example in lookup_examples.EXAMPLES:
+        number, place, kind, node, element = example.reply
+        wanted = (number, place) if number else (node, element) if kind == 1 else None
+        tally.same(example.name, told(lup, lup.lookup, example.table, example.node, example.element), wanted)
+    for run in run_cases.random_runs(rng, count):
+        test_plan(tally, lup, rng, run.table)
+        test_run(tally, lup, rng, run.table, run.values, run.flags)
+    for data in (b'', bytes.fromhex('010004'), bytes.fromhex('8000'), bytes.fromhex('0115'), bytes.fromhex('0100040A00')):
+        answer = model.unpack(data, [0] * 4352)
+        tally.same(data.hex(), told(lup, lup.unpack, data), tuple(answer[:2]))
+    tally.same('a negative node', told(lup, lup.lookup, cases.const(2, 5), -1, 0), (17, 0))
+    tally.same('the words of a refusal', str(lup.Refused(8, 14)), 'refused 8 at node 14: shapes disagree, or over 1048576 elements')
+
+
+def test_numpy(tally, lup):
+    """No copy is made of what is laid out as the library wants it, and nothing is rounded."""
+    numbers = lup.numpy.arange(6, dtype='int64')
+    tally.same('no copy', lup._lent(lup._held(numbers, 'q'))[0], numbers.ctypes.data)
+    flags = lup.numpy.array([True, False])
+    tally.same('flags that are bools', lup._held(flags, 'B').tolist(), [1, 0])
+    tally.same('every other number', lup._held(numbers[::2], 'q').tolist(), [0, 2, 4])
+    for wrong, code, error in ((lup.numpy.array([1.5]), 'q', TypeError), (lup.numpy.array([256]), 'B', OverflowError)):
+        try:
+            lup._held(wrong, code)
+            tally.same('refused', False, error)
+        except error:
+            tally.same('refused', error, error)
+
+
+def main():
+    count = int(sys.argv[1]) if len(sys.argv) > 1 else 400
+    rng, tally = Random(int(sys.argv[2]) if len(sys.argv) > 2 else 5), Tally()
+    for note, lup in modules():
+        print(note)
+        test_module(tally, lup, rng, count)
+        if lup.numpy:
+            test_numpy(tally, lup)
+    print(f'{tally.passed} passed, {tally.failed} failed')
+    sys.exit(tally.failed != 0)
+
+
+if __name__ == '__main__':
+    main()
