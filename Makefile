@@ -1,4 +1,4 @@
-# make        builds into build/: the archive liblupetzarin.a, the shared object liblupetzarin.so and the program list
+# make        builds into build/: the archive liblupetzarin.a, the shared object liblupetzarin.so, the programs lup and list
 # make test   proves every crate, then runs the tests outside Rattle; its last line is 'N passed, 0 failed'
 # make linked a C program over the header and the archive; its last line is 'N passed, 0 failed'
 # make fuzz   every export on random and mutated inputs, FUZZ_SECONDS long (60); FUZZ_SEED chooses them
@@ -13,10 +13,15 @@ HEADER = include/lupetzarin.h
 ARCHIVE = build/liblupetzarin.a
 SHARED = build/liblupetzarin.so
 LIST = build/list
+LUP = build/lup
+SANITIZED = build/lup-sanitized
+HOST_SOURCES = $(sort $(wildcard host/*.c))
+HOST_HEADERS = $(wildcard host/*.h) $(HEADER)
+HOST_FLAGS = $(CFLAGS) -Werror -D_POSIX_C_SOURCE=200809L -Iinclude
 # Directories too: their times change where a file comes or goes.
 SOURCES = $(shell find crates) crates.txt TOOLCHAIN
 
-all: $(ARCHIVE) $(SHARED) $(LIST)
+all: $(ARCHIVE) $(SHARED) $(LIST) $(LUP)
 
 $(ARCHIVE): $(SOURCES)
 	rt staticlib lupetzarin
@@ -30,6 +35,13 @@ $(LIST): $(SOURCES)
 	rt check list
 	mkdir -p build
 	cp target/bin/list $@
+
+$(LUP): $(HOST_SOURCES) $(HOST_HEADERS) $(ARCHIVE)
+	$(CC) $(HOST_FLAGS) -O2 -o $@ $(HOST_SOURCES) $(ARCHIVE)
+
+# The same sources over the same archive; the archive itself is not instrumented.
+$(SANITIZED): $(HOST_SOURCES) $(HOST_HEADERS) $(ARCHIVE)
+	$(CC) $(HOST_FLAGS) -O1 -g -fsanitize=address,undefined -fno-sanitize-recover=all -o $@ $(HOST_SOURCES) $(ARCHIVE)
 
 build/linked: tests/boundary/linked.c $(HEADER) $(ARCHIVE)
 	$(CC) $(CFLAGS) -Werror -Iinclude -o $@ tests/boundary/linked.c $(ARCHIVE)
@@ -57,8 +69,8 @@ FUZZ_SEED = 1
 fuzz: build/fuzz
 	@build/fuzz $(FUZZ_SECONDS) $(FUZZ_SEED)
 
-demo:
-	@echo "demo: nothing to show yet; it comes with the host program (issue 6)"
+demo: $(LUP)
+	@demo/run
 
 # numpy is Debian's python3-numpy, which the system's own Python sees.
 bench: build/bench build/bench_run build/join.plan $(SHARED)

@@ -17,24 +17,12 @@ sys.path[:0] = [HERE, os.path.join(os.path.dirname(HERE), 'model')]
 import cases  # noqa: E402
 import model  # noqa: E402
 from library import Library, declared, exported  # noqa: E402
+from tally import Tally  # noqa: E402
 
 # The ends of packed numbers of one to five bytes.
 NUMBER_ENDS = sorted({128 ** k + d for k in range(6) for d in (-1, 0, 1) if 0 <= 128 ** k + d < 2 ** 35})
 WORD_ENDS = [model.word_of(m) for m in NUMBER_ENDS]
 BYTE_ENDS = (0, 1, 2, 20, 21, 127, 128, 129, 148, 254, 255)
-
-
-class Tally:
-    def __init__(self):
-        self.passed, self.failed = 0, 0
-
-    def same(self, what, got, wanted):
-        if got == wanted:
-            self.passed += 1
-            return
-        self.failed += 1
-        if self.failed <= 20:
-            print(('%s: got %r, wanted %r' % (what, got, wanted))[:600])
 
 
 def pattern(room):
@@ -227,8 +215,7 @@ def main():
     tally.same('the calls that the library exports', exported(), TESTED)
     for test in TESTS.values():
         test(tally, library, rng, count)
-    print('%d passed, %d failed' % (tally.passed, tally.failed))
-    sys.exit(tally.failed != 0)
+    tally.finish()
 
 
 if __name__ == '__main__':

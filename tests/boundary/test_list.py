@@ -72,8 +72,7 @@ def main():
     print('answers met:', ', '.join('%s: %d times' % (number.decode(), n) for number, n in sorted(met.items(), key=lambda m: int(m[0]))))
     tally.same('shapes of every rank are listed', sorted(shapes), [0, 1, 2, 3])
     tally.same('refusals that unpacking gives are met', {b'20', b'21', b'22', b'23', b'24'} - set(met), set())
-    print('%d passed, %d failed' % (tally.passed, tally.failed))
-    sys.exit(tally.failed != 0)
+    tally.finish()
 
 
 if __name__ == '__main__':

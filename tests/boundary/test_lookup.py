@@ -140,8 +140,7 @@ def main():
     test_longest(compared)
     test_checked(compared, rng, count / 10000)
     test_met(tally, compared.met, count)
-    print('%d passed, %d failed' % (tally.passed, tally.failed))
-    sys.exit(tally.failed != 0)
+    tally.finish()
 
 
 if __name__ == '__main__':

@@ -251,8 +251,7 @@ def main():
     test_checked(compared, rng, count / 10000)
     test_large(compared)
     test_met(tally, compared.met, count)
-    print('%d passed, %d failed' % (tally.passed, tally.failed))
-    sys.exit(tally.failed != 0)
+    tally.finish()
 
 
 if __name__ == '__main__':

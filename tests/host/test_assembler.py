@@ -20,6 +20,7 @@ import make_bay  # noqa: E402
 import model  # noqa: E402
 import run_cases  # noqa: E402
 from cases import apply, const, move, node, param, reduce_node  # noqa: E402
+from tally import Tally  # noqa: E402
 
 PROGRAM = os.path.join(ROOT, 'host', 'lupasm.py')
 WIND = param(0, 2, -500, 500, (40, 12))
@@ -45,18 +46,6 @@ WRONG = (
     ('w = node 0 4', 'operation 0 has the words 4, 5'), (f'w = const i32 {2 ** 34}', 'cannot be packed'), ('w = const u8 1\n' + ''.join(f'v{k} = const u8 1\n' for k in range(256)), 'at most 256 nodes'),
     ('w w = const u8 1', 'a line is'), ('w = const u8 1 # five\nv = const u8 x', "line 2: 'x' is no whole number"),
 )
-
-
-class Tally:
-    def __init__(self):
-        self.passed, self.failed = 0, 0
-
-    def same(self, what, got, wanted):
-        if got == wanted:
-            self.passed += 1
-            return
-        self.failed += 1
-        print(f'{what}: got {got!r}, wanted {wanted!r}'[:600])
 
 
 def test_lines(tally):
@@ -134,8 +123,7 @@ def main():
     test_plans(tally, rng, count)
     test_program(tally)
     test_example(tally)
-    print(f'{tally.passed} passed, {tally.failed} failed')
-    sys.exit(tally.failed != 0)
+    tally.finish()
 
 
 if __name__ == '__main__':

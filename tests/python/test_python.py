@@ -20,19 +20,7 @@ import lookup_examples  # noqa: E402
 import model  # noqa: E402
 import run_cases  # noqa: E402
 import run_examples  # noqa: E402
-
-
-class Tally:
-    def __init__(self):
-        self.passed, self.failed = 0, 0
-
-    def same(self, what, got, wanted):
-        if got == wanted:
-            self.passed += 1
-            return
-        self.failed += 1
-        if self.failed <= 20:
-            print(f'{what}: got {got!r}, wanted {wanted!r}'[:600])
+from tally import Tally  # noqa: E402
 
 
 def modules():
@@ -133,8 +121,7 @@ def main():
         test_module(tally, lup, rng, count)
         if lup.numpy:
             test_numpy(tally, lup)
-    print(f'{tally.passed} passed, {tally.failed} failed')
-    sys.exit(tally.failed != 0)
+    tally.finish()
 
 
 if __name__ == '__main__':

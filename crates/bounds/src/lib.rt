@@ -1,7 +1,8 @@
 // Interval rules.
 ghost use mathlib.Core.Path.{_≡_};
-ghost use Prim.Native.Nat.{ℕ, _<_, _≤_};
+ghost use Prim.Native.Nat.{_<_, _≤_};
 ghost use lib.IntN.{ℤ, pos, _*ℤ_};
+ghost use lib.Signed.{mag};
 ghost use Rattle.laws.specs.Integers.{minZ, maxZ, min4, max4, floorDiv, floorMod};
 ghost use Rattle.laws.proofs.Machine.{Small};
 ghost use Rattle.plan.specs.Types.{between, holds, contains, rangeOf};
@@ -44,26 +45,35 @@ fn greatest4(a: i64, b: i64, c: i64, d: i64) -> i64
     greatest(greatest(a, b), greatest(c, d))
 }
 
+// How far a number lies from 0, and a negative one from -1.
+fn distance(a: i64) -> u32
+    requires { ⌜ Small a ⌝ }
+    ensures { λ r. ⌜ r ≡ mag a ⌝ }
+{
+    if a < 0 { (-1 - a) as u32 } else { a as u32 }
+}
+
+// The floor of a / b by one division of 32 bits, the fastest that the machine has.
+fn floor_by(a: i64, b: u32) -> i64
+    requires { ⌜ (Small a) × (0 < b) ⌝ }
+    ensures { λ r. ⌜ r ≡ floorDiv a (pos b) ⌝ }
+{
+    let q = (distance(a) / b) as i64;
+    if a < 0 {
+        return -1 - q;
+    }
+    q
+}
+
 // The floor of a / b.
 pub fn floor_div(a: i64, b: i64) -> i64
     requires { ⌜ (Small a) × (Small b) × (b ≡ pos 0 → ⊥) ⌝ }
     ensures { λ r. ⌜ r ≡ floorDiv a b ⌝ }
 {
-    let q = a / b;
-    let r = a % b;
-    if r == 0 {
-        return q;
-    }
-    if r < 0 {
-        if b < 0 {
-            return q;
-        }
-        return q - 1;
-    }
     if b < 0 {
-        return q - 1;
+        return floor_by(-a, (-b) as u32);
     }
-    q
+    floor_by(a, b as u32)
 }
 
 // What the floor leaves of a.
@@ -256,19 +266,6 @@ pub fn wide(b: Bounds) -> Interval
     Interval {
         low: b.low as i64,
         high: b.high as i64,
-    }
-}
-
-// An interval that fits 32 bits, as such.
-pub fn narrow(x: Interval) -> Bounds
-    requires { ⌜ Narrow x ⌝ }
-    ensures { λ r. ⌜ wideOf r ≡ x ⌝ }
-{
-    let low = x.low;
-    let high = x.high;
-    Bounds {
-        low: low as i32,
-        high: high as i32,
     }
 }
 

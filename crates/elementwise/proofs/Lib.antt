@@ -1,2 +1,3 @@
 pub mod Choosing
+pub mod Lesser
 pub mod Rows

@@ -1,20 +1,23 @@
 -- Cells of three views read while a buffer is written behind them, and their rows one after another.
-use Prim.Native.Nat.{ℕ, _+_, _*_, _<_}
-use mathlib.Core.Path.{_≡_, refl, _∙_}
+use Prim.Native.Nat.{ℕ, _+_, _*_, _≤_, _<_}
+use mathlib.Core.Path.{_≡_, refl, ap, _∙_}
+use mathlib.Core.Bool.{Bool, true, false, cond}
 use mathlib.Core.List.{List}
+use lib.Dec.{eqb}
 use lib.IntN.{ℤ, pos}
-use lib.ListN.{getD}
+use lib.ListN.{length, getD}
 use borrow.Author.Tests.{ne-eqb}
 use mir.Syntax.{w64}
 use mir.Val.{SFits}
+use Rattle.laws.specs.Integers.{sameZ}
 use Rattle.laws.specs.Store.{store}
 use Rattle.laws.proofs.Machine.{Small, R, R-is}
-use Rattle.laws.proofs.Store.{store-block, store-read, store-same}
+use Rattle.laws.proofs.Store.{store-block, store-read, store-same, store-again, store-hit}
 use Rattle.plan.specs.declared.Row.{Row}
 use Rattle.views.specs.declared.View.{View}
 use Rattle.views.specs.Views.{step, rowsOf, rowPlace, place, reach}
 use Rattle.views.proofs.RowPlaces.{place-row, cell-below}
-use Rattle.elementwise.specs.Mixing.{mixFlag, three, SmallAlong}
+use Rattle.elementwise.specs.Mixing.{mixFlag, sideOf, sideFlag, chosenFlag, three, SmallAlong}
 use Rattle.views.specs.Numbers.{SmallBefore}
 
 -- m has what l has before place s
@@ -66,3 +69,33 @@ pub flags-alike : (op k : ℕ) → (op ≡ 18 → ⊥) → (k ≡ 18 → ⊥) �
     → m ≡ store l s n (λ (j : ℕ). three (mixFlag k) vs fs (p j) (q j) (u j)) → m ≡ store l s n (λ (j : ℕ). three (mixFlag op) vs fs (p j) (q j) (u j))
 unfolding mixFlag
 flags-alike op k other-op other-k vs fs l m s n p q u e = e ∙ store-same l s n _ _ (λ j w. rw (ne-eqb op 18 other-op, ne-eqb k 18 other-k) refl)
+
+-- ---- WHERE: the sides first, then the flags in their places
+
+-- a side, of a number read at k, where the one at p is
+pub side-read : (vs : List ℤ) {k p : ℕ} {x : ℤ} → x ≡ getD vs k (pos 0) → k ≡ p → sideOf x ≡ sideOf (getD vs p (pos 0))
+side-read vs ex ep = rw (ex, ep)
+
+-- a side not yet passed, and flags read at places computed another way
+pub chosen-read : {fs gs : List ℕ} {s : ℕ} → Kept 0 fs gs s → (t : ℕ) {k l m p q u : ℕ} → getD gs t 0 ≡ getD fs t 0 → k ≡ p → l ≡ q → m ≡ u → k < s → l < s → m < s
+    → chosenFlag gs t k l m ≡ chosenFlag fs t p q u
+chosen-read v t {k} {l} {m} here ep eq eu hk hl hm = rw (here, v .at k hk, v .at l hl, v .at m hm, ep, eq, eu)
+
+side-chosen : (x y z : ℤ) (f g h : ℕ) → sideFlag (sideOf x) f g h ≡ mixFlag 18 x f y g z h
+unfolding mixFlag
+side-chosen x y z f g h = ap (λ (r : ℕ). cond (eqb f 1) r 0) (by-side (sameZ x (pos 0)))
+  where
+    by-side : (b : Bool) → cond (eqb (cond b 0 1) 0) h g ≡ cond b h g
+    by-side true = refl
+    by-side false = refl
+
+-- the sides, and the flags over them
+pub where-done : (vs : List ℤ) (fs gs end : List ℕ) (s n : ℕ) (p q u : ℕ → ℕ) → s + n ≤ length fs → ((j : ℕ) → j < n → (p j < s) × (q j < s) × (u j < s))
+    → gs ≡ store fs s n (λ (j : ℕ). sideOf (getD vs (p j) (pos 0))) → end ≡ store gs s n (λ (j : ℕ). chosenFlag gs (s + j) (p j) (q j) (u j))
+    → end ≡ store fs s n (λ (j : ℕ). three (mixFlag 18) vs fs (p j) (q j) (u j))
+where-done vs fs gs end s n p q u room near e h =
+    let v = kept 0 fs gs s n _ e in
+    store-again fs gs end s n _ _ _ e h
+    (λ k w.
+    rw (store-hit fs gs s n _ k 0 e w room, v .at (p k) (near k w .0), v .at (q k) (near k w .1), v .at (u k) (near k w .2))
+    (side-chosen (getD vs (p k) (pos 0)) (getD vs (q k) (pos 0)) (getD vs (u k) (pos 0)) (getD fs (p k) 0) (getD fs (q k) 0) (getD fs (u k) 0)))

@@ -4,23 +4,27 @@ ghost use mathlib.Core.Bool.{true, cond};
 ghost use Prim.Native.Nat.{ℕ, _+_, _*_, _≤_, _<_};
 ghost use lib.IntN.{ℤ, pos, _+ℤ_, _*ℤ_};
 ghost use lib.Signed.{ltZ};
-ghost use lib.ListN.{length};
+ghost use lib.ListN.{length, getD};
 ghost use Rattle.laws.specs.Integers.{sameZ};
 ghost use Rattle.laws.specs.Store.{store};
 ghost use Rattle.laws.proofs.Machine.{Small};
 ghost use Rattle.cells.specs.Cells.{binary};
 ghost use Rattle.views.specs.Views.{strideOf, step, span, rowsOf, reach};
-ghost use Rattle.elementwise.specs.Mixing.{mixValue, mixFlag, three, mixedValues, mixedFlags, SmallAlong};
+ghost use Rattle.elementwise.specs.Mixing.{mixValue, mixFlag, sideOf, sideFlag, chosenFlag, three, mixedValues, mixedFlags, SmallAlong};
 ghost use Rattle.views.specs.Numbers.{SmallBefore};
 use plan::Row;
 use views::Stride;
 use views::View;
 
-// 1 where x is less than y, else 0.
+// 1 where x is less than y, else 0: the highest bit of their difference, which the machine finds for several cells at once, as it does not for a
+// comparison of 64 bits.
 fn less(x: i64, y: i64) -> i64
+    requires { ⌜ (Small x) × (Small y) ⌝ }
     ensures { λ r. ⌜ r ≡ cond (ltZ x y) (pos 1) (pos 0) ⌝ }
 {
-    if x < y { 1 } else { 0 }
+    let a = (x + 2147483648) as u64;
+    let b = (y + 2147483648) as u64;
+    (std::num::wrapping_sub_u64(a, b) >> 63) as i64
 }
 
 // 1 where x is not y, else 0.
@@ -330,6 +334,66 @@ fn both_flags(
     row_flags(values, flags, 9, n, p, a, q, b, u, d, to);
 }
 
+// Which source a WHERE takes: 1 is the second, 0 the third.
+fn side(x: i64) -> u8
+    ensures { λ r. ⌜ r ≡ sideOf x ⌝ }
+{
+    if x == 0 { 0 } else { 1 }
+}
+
+// The flag of the side taken; 0 where the condition is a gap.
+fn side_flag(s: u8, f: u8, g: u8, h: u8) -> u8
+    ensures { λ r. ⌜ r ≡ sideFlag s f g h ⌝ }
+{
+    if f != 1 {
+        return 0;
+    }
+    if s == 0 {
+        return h;
+    }
+    g
+}
+
+// The sides of a row of a WHERE, in the places of its flags: the numbers are read in a loop of their own, and the flags after it are all of one width.
+fn row_sides(values: &[i64], flags: &mut [u8], n: usize, p: usize, a: Stride, to: usize)
+    requires { ⌜ (p + span n a < to) × (to + n ≤ length (now values)) × (to + n ≤ length (now flags)) ⌝ }
+    ensures { λ _. ⌜ now (flags .exit) ≡ store (now (flags .entry)) to n (λ (j : ℕ). sideOf (getD (now (values .entry)) (p + step n a j) (pos 0))) ⌝ }
+{
+    let mut i = 0;
+    while i < n {
+        let k = p + views::step_at(n, a, i);
+        let x = values[k];
+        flags[to + i] = side(x);
+        i += 1;
+    }
+}
+
+// The flags of a row of a WHERE, where its sides are.
+fn row_chosen(
+    flags: &mut [u8],
+    n: usize,
+    p: usize,
+    a: Stride,
+    q: usize,
+    b: Stride,
+    u: usize,
+    d: Stride,
+    to: usize,
+)
+    requires { ⌜ (p + span n a < to) × (q + span n b < to) × (u + span n d < to) × (to + n ≤ length (now flags)) ⌝ }
+    ensures { λ _. ⌜ now (flags .exit) ≡ store (now (flags .entry)) to n (λ (j : ℕ). chosenFlag (now (flags .entry)) (to + j) (p + step n a j) (q + step n b j) (u + step n d j)) ⌝ }
+{
+    let mut i = 0;
+    while i < n {
+        let k = p + views::step_at(n, a, i);
+        let l = q + views::step_at(n, b, i);
+        let m = u + views::step_at(n, d, i);
+        let t = to + i;
+        flags[t] = side_flag(flags[t], flags[k], flags[l], flags[m]);
+        i += 1;
+    }
+}
+
 // The flags of a row of a WHERE.
 fn where_flags(
     values: &[i64],
@@ -348,7 +412,8 @@ fn where_flags(
 {
     let one = Stride { up: 1, down: 0 };
     if same_strides(a, b, d, 1, 1) {
-        row_flags(values, flags, 18, n, p, one, q, one, u, one, to);
+        row_sides(values, flags, n, p, one, to);
+        row_chosen(flags, n, p, one, q, one, u, one, to);
         return;
     }
     row_flags(values, flags, 18, n, p, a, q, b, u, d, to);

@@ -3,6 +3,7 @@ use Prim.Native.Nat.{ℕ, zero, suc, _+_, _≤_}
 use mathlib.Core.Path.{_≡_, refl}
 use mathlib.Core.Bool.{Bool, true, false, cond}
 use mathlib.Core.List.{List}
+use native.Mathlib.Nat.{add-zero, add-suc, add-assoc}
 use native.Mathlib.Numerals.{add-one}
 use native.Mathlib.Omega.{arith}
 use lib.Dec.{eqb}
@@ -18,6 +19,15 @@ module _ (flags : List ℕ) (from : ℕ) where
   pub gaps-more : (i gaps one : ℕ) → gaps ≡ gapsFrom flags from i → one ≡ cond (eqb (getD flags (from + i) 0) 1) 0 1 → gaps + one ≡ gapsFrom flags from (i + 1)
   unfolding gapsFrom
   gaps-more i gaps one e q = rw (add-one, e, q)
+
+  -- m flags more
+  gaps-join : (i m : ℕ) → gapsFrom flags from i + gapsFrom flags (from + i) m ≡ gapsFrom flags from (i + m)
+  unfolding gapsFrom
+  gaps-join i zero = rw (add-zero, add-zero)
+  gaps-join i (suc m) = rw (add-suc, ← gaps-join i m, add-assoc, add-assoc)
+
+  pub gaps-after : (i m gaps more : ℕ) → gaps ≡ gapsFrom flags from i → more ≡ gapsFrom flags (from + i) m → gaps + more ≡ gapsFrom flags from (i + m)
+  gaps-after i m gaps more e q = rw (e, q) (gaps-join i m)
 
   -- at most one for each flag
   pub gaps-few : (n : ℕ) → gapsFrom flags from n ≤ n

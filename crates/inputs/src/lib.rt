@@ -267,10 +267,31 @@ pub fn param_flags(flags: &mut [u8], known: &[u8], from: usize, n: usize, to: us
 }
 
 // 1 for a gap, 0 for a known cell.
-fn one_if_gap(flag: u8) -> usize
+fn one_if_gap(flag: u8) -> u8
     ensures { λ r. ⌜ r ≡ cond (eqb flag 1) 0 1 ⌝ }
 {
     if flag == 1 { 0 } else { 1 }
+}
+
+// The gaps among a few flags, counted in the width of a flag: sixteen at once.
+fn few_gaps(flags: &[u8], from: usize, n: usize) -> u8
+    requires { ⌜ (n ≤ 192) × (from + n ≤ length (now flags)) ⌝ }
+    ensures { λ r. ⌜ r ≡ gapsFrom (now (flags .entry)) from n ⌝ }
+{
+    let mut gaps = 0;
+    let mut i = 0;
+    while i < n {
+        gaps += one_if_gap(flags[from + i]);
+        i += 1;
+    }
+    gaps
+}
+
+// How many of n to count at once.
+fn a_few(n: usize) -> usize
+    ensures { λ r. ⌜ (r ≤ n) × (r ≤ 192) × (0 < n → 0 < r) ⌝ }
+{
+    if n < 192 { n } else { 192 }
 }
 
 // The gaps among n flags.
@@ -281,8 +302,10 @@ pub fn count_gaps(flags: &[u8], from: usize, n: usize) -> usize
     let mut gaps = 0;
     let mut i = 0;
     while i < n {
-        gaps += one_if_gap(flags[from + i]);
-        i += 1;
+        let few = a_few(n - i);
+        let more = few_gaps(flags, from + i, few);
+        gaps += more as usize;
+        i += few;
     }
     gaps
 }

@@ -8,6 +8,7 @@ ghost use Rattle.plan.specs.Words.{nodeAt};
 ghost use Rattle.rules.specs.Code.{Masked, TypeOf, DeviceOf, viewOf, Shapes, Gathers, Ready, Values, Judges, Early};
 ghost use Rattle.laws.specs.Numbering.{count};
 ghost use Rattle.shapes.specs.Shown.{shown};
+ghost use Rattle.bounds.specs.Narrow.{wideOf, Narrow};
 use bounds::Bounds;
 use plan::Interval;
 use plan::Node;
@@ -279,6 +280,19 @@ fn divisor_right(op: usize, b: Interval) -> bool
     !((op == 12) | (op == 13)) | !bounds::holds_zero(b)
 }
 
+// An interval that fits 32 bits, as such.
+fn narrow(x: Interval) -> Bounds
+    requires { ⌜ Narrow x ⌝ }
+    ensures { λ r. ⌜ wideOf r ≡ x ⌝ }
+{
+    let low = x.low;
+    let high = x.high;
+    Bounds {
+        low: low as i32,
+        high: high as i32,
+    }
+}
+
 // Rules 9 to 11, and the record of a node of shape e with n elements.
 fn value_node(x: Node, params: usize, a: Record, b: Record, c: Record, e: Shape, n: usize) -> Judged
     requires { ⌜ Ready x params (viewOf a) (viewOf b) (viewOf c) e n ⌝ }
@@ -305,12 +319,12 @@ fn value_node(x: Node, params: usize, a: Record, b: Record, c: Record, e: Shape,
         return Judged::Breaks(11);
     }
     let device = result_device(x, a.device, b.device, c.device);
-    let narrow = bounds::narrow(range);
+    let ends = narrow(range);
     Judged::Meets(
         Record {
             dtype: dtype as u8,
             device: device as u8,
-            bounds: narrow,
+            bounds: ends,
             extents: e,
         },
         n,

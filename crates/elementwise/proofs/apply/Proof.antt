@@ -28,7 +28,7 @@ floor-mod-requires : tie.Need-floor-mod-requires
 floor-mod-requires c κs = let s = c .before in rw (R-is (s .fits .x), R-is (s .fits .y)) (s .pre .2, s .pre .3)
 
 less-requires : tie.Need-less-requires
-less-requires c κs = search needs
+less-requires c κs = let s = c .before in rw (R-is (s .fits .x), R-is (s .fits .y)) (s .pre .2, s .pre .3)
 
 differ-requires : tie.Need-differ-requires
 differ-requires c κs = search needs

@@ -1,7 +1,7 @@
 use Rattle.laws.proofs.Machine.{fit-at}
 use Rattle.bounds.proofs.Readback.{narrowed-fits, narrowed}
-use Rattle.bounds.proofs.narrow.Statement.{statement}
-use Rattle.bounds.proofs.narrow.Tie as tie
+use Rattle.rules.proofs.narrow.Statement.{statement}
+use Rattle.rules.proofs.narrow.Tie as tie
 
 cast-t4 : tie.Need-cast-t4
 cast-t4 c = let s = c .before .before in narrowed-fits (fit-at (s .args .x .low) (c .struct-told2 .given .0 .1)) (s .pre .low)

@@ -1,0 +1,123 @@
+#include "field.h"
+
+#include "message.h"
+
+#include <errno.h>
+#include <inttypes.h>
+#include <stdlib.h>
+#include <string.h>
+
+#define MAGIC "LUPFIELD"
+#define MAGIC_BYTES 8
+#define WORD_BYTES 8
+
+static uint64_t word_at(const uint8_t *bytes) {
+    uint64_t word = 0;
+    for (size_t k = WORD_BYTES; k > 0; k--) word = word << 8 | bytes[k - 1];
+    return word;
+}
+
+static void put_word(FILE *file, uint64_t word) {
+    uint8_t bytes[WORD_BYTES];
+    for (size_t k = 0; k < WORD_BYTES; k++) bytes[k] = (uint8_t)(word >> 8 * k);
+    fwrite(bytes, 1, WORD_BYTES, file);
+}
+
+/* Reads exactly so many bytes of the named part. */
+static int read_part(FILE *file, const char *name, const char *part, uint8_t *bytes, size_t count) {
+    size_t got = fread(bytes, 1, count, file);
+    if (got == count) return DONE;
+    if (ferror(file)) return complain("%s: it cannot be read: %s", name, strerror(errno));
+    return complain("%s: not a field: it ends inside its %s, %zu bytes short", name, part, count - got);
+}
+
+static int read_shape(FILE *file, const char *name, shape *s) {
+    uint8_t bytes[WORD_BYTES * MOST_RANK];
+    char text[SHAPE_TEXT];
+    if (read_part(file, name, "first 8 bytes", bytes, MAGIC_BYTES) != DONE) return MISUSED;
+    if (memcmp(bytes, MAGIC, MAGIC_BYTES) != 0) return complain("%s: not a field: it does not begin with " MAGIC, name);
+    if (read_part(file, name, "rank", bytes, WORD_BYTES) != DONE) return MISUSED;
+    uint64_t rank = word_at(bytes);
+    if (rank > MOST_RANK) return complain("%s: not a field: its rank is %" PRIu64 ", not 0..4", name, rank);
+    s->rank = (size_t)rank;
+    if (read_part(file, name, "extents", bytes, s->rank * WORD_BYTES) != DONE) return MISUSED;
+    for (size_t axis = 0; axis < s->rank; axis++) {
+        uint64_t extent = s->extents[axis] = word_at(bytes + axis * WORD_BYTES);
+        if (extent < 1 || extent > MOST_ELEMENTS) return complain("%s: not a field: its extent %zu is %" PRIu64 ", not 1..1048576", name, axis, extent);
+    }
+    if (element_count(s) > 0) return DONE;
+    write_shape(s, text);
+    return complain("%s: not a field: its shape %s has over 1048576 elements", name, text);
+}
+
+int allocate_cells(const char *name, size_t count, int64_t **values, uint8_t **flags) {
+    size_t room = count > 0 ? count : 1;
+    *values = room <= SIZE_MAX / sizeof **values ? malloc(room * sizeof **values) : NULL;
+    *flags = malloc(room);
+    if (*values != NULL && *flags != NULL) return DONE;
+    free(*values);
+    free(*flags);
+    *values = NULL, *flags = NULL;
+    return complain("%s: there is no memory for %zu elements", name, count);
+}
+
+/* The values and flags, after which the file ends. The values' bytes are read into their own place and put in order there. */
+static int read_cells(FILE *file, const char *name, field *f) {
+    if (read_part(file, name, "values", (uint8_t *)f->values, f->count * sizeof *f->values) != DONE) return MISUSED;
+    for (size_t k = 0; k < f->count; k++) f->values[k] = (int64_t)word_at((const uint8_t *)&f->values[k]);
+    if (read_part(file, name, "flags", f->flags, f->count) != DONE) return MISUSED;
+    for (size_t k = 0; k < f->count; k++)
+        if (f->flags[k] > 1) return complain("%s: not a field: the flag of element %zu is %u, neither 0 nor 1", name, k, (unsigned)f->flags[k]);
+    if (fgetc(file) != EOF) return complain("%s: not a field: there are bytes after its last flag", name);
+    if (ferror(file)) return complain("%s: it cannot be read: %s", name, strerror(errno));
+    return DONE;
+}
+
+int read_field(FILE *file, const char *name, field *f) {
+    *f = (field){.count = 0};
+    if (read_shape(file, name, &f->shape) != DONE) return MISUSED;
+    f->count = element_count(&f->shape);
+    if (allocate_cells(name, f->count, &f->values, &f->flags) != DONE) return MISUSED;
+    if (read_cells(file, name, f) == DONE) return DONE;
+    free_field(f);
+    return MISUSED;
+}
+
+void write_field(FILE *file, const field *f) {
+    fwrite(MAGIC, 1, MAGIC_BYTES, file);
+    put_word(file, f->shape.rank);
+    for (size_t axis = 0; axis < f->shape.rank; axis++) put_word(file, f->shape.extents[axis]);
+    for (size_t k = 0; k < f->count; k++) put_word(file, f->flags[k] == 1 ? (uint64_t)f->values[k] : 0);
+    fwrite(f->flags, 1, f->count, file);
+}
+
+void free_field(field *f) {
+    free(f->values);
+    free(f->flags);
+    *f = (field){.count = 0};
+}
+
+field_range range_of(const field *f) {
+    field_range r = {.known = 0};
+    for (size_t k = 0; k < f->count; k++) {
+        int64_t value = f->values[k];
+        if (f->flags[k] == 0) continue;
+        if (r.known == 0 || value < r.least) r.least = value;
+        if (r.known == 0 || value > r.greatest) r.greatest = value;
+        r.known++;
+    }
+    r.gaps = f->count - r.known;
+    return r;
+}
+
+size_t step_of(const field_range *r, int64_t value, size_t steps) {
+    /* Differences of any two numbers of 64 bits fit into unsigned ones; they are halved until the product fits too. */
+    uint64_t above = (uint64_t)value - (uint64_t)r->least, span = (uint64_t)r->greatest - (uint64_t)r->least;
+    while (span > UINT64_MAX / steps) {
+        above /= 2;
+        span /= 2;
+    }
+    if (span == 0) return steps / 2;
+    size_t step = (size_t)(above * steps / span);
+    return step < steps ? step : steps - 1;
+}

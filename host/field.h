@@ -1,0 +1,39 @@
+/* Field files: 'LUPFIELD', rank, extents, values, flags. */
+#ifndef FIELD_H
+#define FIELD_H
+
+#include "shape.h"
+
+#include <stdio.h>
+
+/* count elements; a flag is 1 for a known number and 0 for a gap, whose value means nothing. */
+typedef struct {
+    shape shape;
+    size_t count;
+    int64_t *values;
+    uint8_t *flags;
+} field;
+
+/* How many elements are known, and the least and the greatest of them; 0 and 0 where none is. */
+typedef struct {
+    size_t known, gaps;
+    int64_t least, greatest;
+} field_range;
+
+/* Room for so many values and flags, at least for one. DONE, or MISUSED with a message that names the file. */
+int allocate_cells(const char *name, size_t count, int64_t **values, uint8_t **flags);
+
+/* Reads a field from an open file. DONE; MISUSED with a message and nothing to free. */
+int read_field(FILE *file, const char *name, field *f);
+
+/* Writes a field, its gaps as value 0; whether that worked is left in the file's state. */
+void write_field(FILE *file, const field *f);
+
+void free_field(field *f);
+
+field_range range_of(const field *f);
+
+/* The place of a value among so many equal steps from least to greatest, at most 256: 0..steps - 1; the middle where the two are the same. */
+size_t step_of(const field_range *r, int64_t value, size_t steps);
+
+#endif

@@ -1,0 +1,83 @@
+/* lup: plans and fields from the command line, by the proved library. */
+#include "commands.h"
+#include "message.h"
+
+#include <stdio.h>
+#include <string.h>
+
+typedef struct {
+    const char *name, *help;
+    int (*call)(arguments a);
+} command;
+
+static const char STATUSES[] = "Exit status: 0 done; 1 refused by the library, with number, place and rule on standard error;\n"
+                               "2 misuse, or a file that cannot be read or written.\n";
+
+static const command COMMANDS[] = {
+    {"list",
+     "lup list PLAN [--dot]\n\n"
+     "Lists the nodes of a plan file: node, operation, type, device, low, high and shape; its last line is 'accepted' and the node count.\n"
+     "A refused plan gives the one line 'refused N at P'.\n"
+     "--dot   a graph for Graphviz instead (lup list bay.plan --dot | dot -Tsvg > bay.svg); nothing where the plan is refused\n",
+     list_command},
+    {"check",
+     "lup check PLAN\n\n"
+     "Says whether a plan is accepted, with the number of its nodes and of the elements of all nodes; else what it is refused for, and where.\n",
+     check_command},
+    {"run",
+     "lup run PLAN INPUT... -o FIELD [--node N]\n\n"
+     "Runs a plan and writes the field of its last node. There is one input file for each PARAM, in the order of the PARAMs.\n"
+     "An input file that does not exist is read as gaps and named in the report; one that is there must be a field of the PARAM's shape.\n"
+     "FIELD is written whole or not at all; it may be none of the files that are read.\n"
+     "-o FIELD   the file to write\n"
+     "--node N   the field of node N, counted from 0, instead of the last node's\n",
+     run_command},
+    {"lookup",
+     "lup lookup PLAN NODE ELEMENT\n\n"
+     "Says where an element of a node comes from: it is followed back through PERMUTE, FLIP, RESHAPE, EXPAND, PAD, SHRINK and LOAD to the first\n"
+     "other node, or to the PAD that put a gap there. Nodes, elements, rows and columns are counted from 0.\n",
+     lookup_command},
+    {"show",
+     "lup show FIELD [--svg FILE]\n\n"
+     "Draws a field, rows down and columns across, two characters a cell: shades from the least known number to the greatest, // for a gap.\n"
+     "Fields of rank 3 and 4 are drawn as one picture after another. Wide fields: lup show bay.field | less -S\n"
+     "--svg FILE   an SVG picture in FILE instead\n",
+     show_command},
+};
+#define COMMAND_COUNT (sizeof COMMANDS / sizeof COMMANDS[0])
+
+static void write_usage(FILE *file) {
+    fputs("usage:\n", file);
+    for (size_t k = 0; k < COMMAND_COUNT; k++) fprintf(file, "    %.*s\n", (int)strcspn(COMMANDS[k].help, "\n"), COMMANDS[k].help);
+    fputs("    lup --help, lup COMMAND --help\n", file);
+}
+
+static int write_help(const command *c) {
+    if (c == NULL) write_usage(stdout);
+    printf("%s\n%s", c != NULL ? c->help : "", STATUSES);
+    return finish_output();
+}
+
+/* Whether --help stands among the words before '--'. */
+static int asks_help(const arguments *a) {
+    for (size_t k = 0; k < a->count && strcmp(a->words[k], "--") != 0; k++)
+        if (strcmp(a->words[k], "--help") == 0) return 1;
+    return 0;
+}
+
+int main(int argc, char **argv) {
+    if (argc < 2) {
+        complain("no command is given");
+        write_usage(stderr);
+        return MISUSED;
+    }
+    if (strcmp(argv[1], "--help") == 0) return write_help(NULL);
+    for (size_t k = 0; k < COMMAND_COUNT; k++) {
+        arguments a = {.command = argv[1], .words = argv + 2, .count = (size_t)argc - 2};
+        if (strcmp(argv[1], COMMANDS[k].name) != 0) continue;
+        return asks_help(&a) ? write_help(&COMMANDS[k]) : COMMANDS[k].call(a);
+    }
+    complain("there is no command '%s'", argv[1]);
+    write_usage(stderr);
+    return MISUSED;
+}

@@ -1,0 +1,137 @@
+#include "plan.h"
+
+#include "message.h"
+
+#include <errno.h>
+#include <inttypes.h>
+#include <stdio.h>
+#include <string.h>
+
+/* 256 nodes take at most 11778 bytes, so bytes past these change no answer. */
+#define MOST_BYTES 12288
+#define NAMED(items) (sizeof(items) / sizeof((items)[0]))
+
+static const char *const OPERATIONS[] = {"CONST", "PARAM", "PERMUTE", "FLIP", "RESHAPE", "EXPAND", "PAD", "SHRINK", "CAST", "ADD", "MUL",
+                                         "MAX", "IDIV", "MOD", "CMPLT", "CMPNE", "AND", "OR", "WHERE", "REDUCE", "LOAD"};
+static const char *const DTYPES[] = {"bool", "u8", "i16", "i32"};
+static const char *const RULES[] = {
+    [1] = "length no multiple of 17, or not 1..256 nodes",
+    [2] = "operation not 0..20",
+    [3] = "unused word not zero",
+    [4] = "source negative or not earlier",
+    [5] = "type not 0..3",
+    [6] = "type rule broken (operands differ, bool misplaced, or WHERE condition not bool)",
+    [7] = "row or number wrong",
+    [8] = "shapes disagree, or over 1048576 elements",
+    [9] = "two devices",
+    [10] = "divisor bounds contain 0",
+    [11] = "bounds leave the type",
+    [12] = "all nodes together over 4194304 elements",
+    [13] = "input length is not the PARAM total",
+    [14] = "a buffer written to is too short",
+    [15] = "flag neither 0 nor 1",
+    [16] = "known number outside limits",
+    [17] = "lookup node or element not there",
+    [20] = "bytes end before or inside a number",
+    [21] = "number not in its shortest form of at most 5 bytes",
+    [22] = "bytes left over",
+    [23] = "node count not 1..256",
+    [24] = "operation not 0..20",
+};
+/* What rule 7 asks of an operation's row and number. */
+static const char *const ROWS[] = {
+    [PARAM] = ": slot not its turn or over 15, low above high, device not 1..255, or no shape",
+    [PERMUTE] = ": not each axis of the source once",
+    [FLIP] = ": not a flag 0 or 1 for each axis of the source",
+    [RESHAPE] = ": no shape",
+    [EXPAND] = ": no shape",
+    [PAD] = ": no shape, or an offset not 0..1048576 or past the rank",
+    [SHRINK] = ": no shape, or an offset not 0..1048576 or past the rank",
+    [REDUCE] = ": number neither 0 nor 1, or not a flag 0 or 1 for each axis of the source",
+    [LOAD] = ": device not 1..255",
+};
+
+static const char *named(const char *const *names, size_t count, uint64_t number) {
+    return number < count && names[number] != NULL ? names[number] : NULL;
+}
+
+const char *operation_name(int64_t operation) {
+    const char *name = named(OPERATIONS, NAMED(OPERATIONS), (uint64_t)operation);
+    return name != NULL ? name : "unknown operation";
+}
+
+const char *dtype_name(int64_t dtype) {
+    const char *name = named(DTYPES, NAMED(DTYPES), (uint64_t)dtype);
+    return name != NULL ? name : "unknown type";
+}
+
+const char *rule_words(uint64_t number) {
+    const char *words = named(RULES, NAMED(RULES), number);
+    return words != NULL ? words : "a rule that this program does not know";
+}
+
+int refuse(const plan *p, uint64_t number, uint64_t place) {
+    if (number >= 2 && number <= 11 && place < MOST_NODES) {
+        int64_t operation = word_of(p, (size_t)place, 0);
+        const char *row = number == 7 ? named(ROWS, NAMED(ROWS), (uint64_t)operation) : NULL;
+        complain("%s: refused %" PRIu64 " at node %" PRIu64 " (%s): %s%s", p->name, number, place, operation_name(operation),
+                 rule_words(number), row != NULL ? row : "");
+    } else if (number >= 20) {
+        complain("%s: refused %" PRIu64 " at byte %" PRIu64 ": %s", p->name, number, place, rule_words(number));
+    } else {
+        complain("%s: refused %" PRIu64 ": %s", p->name, number, rule_words(number));
+    }
+    return REFUSED;
+}
+
+static int read_bytes(const char *name, uint8_t bytes[MOST_BYTES], size_t *count) {
+    FILE *file = fopen(name, "rb");
+    if (file == NULL) return complain("%s: the plan cannot be opened: %s", name, strerror(errno));
+    *count = fread(bytes, 1, MOST_BYTES, file);
+    int failed = ferror(file), why = errno;
+    fclose(file);
+    return failed ? complain("%s: the plan cannot be read: %s", name, strerror(why)) : DONE;
+}
+
+int load_plan(const char *name, plan *p) {
+    uint8_t bytes[MOST_BYTES];
+    size_t count = 0;
+    memset(p, 0, sizeof *p);
+    p->name = name;
+    if (read_bytes(name, bytes, &count) != DONE) return MISUSED;
+    uint64_t code = lup_unpack_check(bytes, count);
+    lup_answer unpacked = lup_unpack(bytes, count, p->table, MOST_NODES * NODE_WORDS);
+    if (code > MOST_NODES) {
+        p->refused = (lup_answer){.number = code / 65536, .place = code % 65536};
+        return refuse(p, p->refused.number, p->refused.place);
+    }
+    p->nodes = (size_t)code;
+    lup_answer checked = lup_check(p->table, p->nodes * NODE_WORDS, p->derived, MOST_NODES * DERIVED_WORDS);
+    int agree = unpacked.number == 0 && unpacked.count == code && checked.number == 0;
+    return agree ? DONE : complain("%s: the library's calls disagree on this plan", name);
+}
+
+node_facts facts_of(const plan *p, size_t node) {
+    const int64_t *d = p->derived + node * DERIVED_WORDS;
+    node_facts f = {.operation = word_of(p, node, 0), .dtype = d[0], .device = d[1], .low = d[2], .high = d[3]};
+    while (f.shape.rank < MOST_RANK && d[4 + f.shape.rank] != 0) {
+        f.shape.extents[f.shape.rank] = (uint64_t)d[4 + f.shape.rank];
+        f.shape.rank++;
+    }
+    f.count = element_count(&f.shape);
+    return f;
+}
+
+int64_t word_of(const plan *p, size_t node, size_t word) { return p->table[node * NODE_WORDS + word]; }
+
+size_t source_count(int64_t operation) {
+    if (operation == CONST || operation == PARAM) return 0;
+    if (operation == WHERE) return 3;
+    return operation > CAST && operation < WHERE ? 2 : 1;
+}
+
+size_t total_count(const plan *p) {
+    size_t total = 0;
+    for (size_t node = 0; node < p->nodes; node++) total += facts_of(p, node).count;
+    return total;
+}

@@ -1,0 +1,55 @@
+/* Plan files: read, checked by the library, and the wording of its refusals. */
+#ifndef PLAN_H
+#define PLAN_H
+
+#include "lupetzarin.h"
+#include "shape.h"
+
+#define NODE_WORDS 17
+#define DERIVED_WORDS 8
+#define MOST_NODES 256
+/* Refusal 7: the k-th PARAM has slot k, at most 15. */
+#define MOST_PARAMS 16
+
+enum { CONST, PARAM, PERMUTE, FLIP, RESHAPE, EXPAND, PAD, SHRINK, CAST, WHERE = 18, REDUCE = 19, LOAD = 20 };
+enum { WORD_NUMBER = 5 };
+
+/* A plan as the library unpacked and checked it; refused: number and place, 0 and 0 where it was accepted. */
+typedef struct {
+    const char *name;
+    int64_t table[MOST_NODES * NODE_WORDS], derived[MOST_NODES * DERIVED_WORDS];
+    size_t nodes;
+    lup_answer refused;
+} plan;
+
+/* What is known of one node. */
+typedef struct {
+    int64_t operation, dtype, device, low, high;
+    shape shape;
+    size_t count;
+} node_facts;
+
+/* Reads and checks a plan file. DONE; REFUSED or MISUSED with a message. */
+int load_plan(const char *name, plan *p);
+
+/* Words the refusal of a call on the plan; gives REFUSED. */
+int refuse(const plan *p, uint64_t number, uint64_t place);
+
+/* Words of the rule that a refusal's number stands for. */
+const char *rule_words(uint64_t number);
+
+const char *operation_name(int64_t operation);
+const char *dtype_name(int64_t dtype);
+
+node_facts facts_of(const plan *p, size_t node);
+
+/* A word of a node's 17. */
+int64_t word_of(const plan *p, size_t node, size_t word);
+
+/* The sources of a node: how many words from word 1 on are. */
+size_t source_count(int64_t operation);
+
+/* The elements of all nodes. */
+size_t total_count(const plan *p);
+
+#endif

@@ -1,0 +1,98 @@
+#!/usr/bin/env python3
+"""The demo's output: the field against the independent model, a gap where the dead machine's strip is and nowhere else, the pictures, the listing.
+
+usage: test_demo.py     last line: 'N passed, 0 failed'
+"""
+
+import os
+import re
+import struct
+import subprocess
+import sys
+import xml.etree.ElementTree
+
+sys.dont_write_bytecode = True
+ROOT = os.path.dirname(os.path.dirname(os.path.dirname(os.path.abspath(__file__))))
+sys.path[:0] = [os.path.join(ROOT, part) for part in ('host', 'demo', 'tests/model')]
+
+import lupasm  # noqa: E402
+import make_bay  # noqa: E402
+import model  # noqa: E402
+from tally import Tally  # noqa: E402
+
+OUT = os.path.join(ROOT, 'build', 'demo')
+FIELD, STRONGEST = 81, 82
+SHAPE = (make_bay.ROWS, make_bay.COLUMNS - 2)
+# the columns of the field that the dead machine's strip has a part in
+DEAD = range(make_bay.STEP * make_bay.DEAD - 1, make_bay.STEP * make_bay.DEAD - 1 + make_bay.WIDTH)
+
+
+def read_field(path):
+    """Extents, and a value or None for each cell."""
+    with open(path, 'rb') as file:
+        data = file.read()
+    magic, rank = struct.unpack_from('<8sQ', data)
+    extents = struct.unpack_from(f'<{rank}Q', data, 16)
+    count = (len(data) - 16 - 8 * rank) // 9
+    cells = struct.unpack_from(f'<{count}q{count}B', data, 16 + 8 * rank)
+    assert magic == b'LUPFIELD', path
+    return extents, [value if flag else None for value, flag in zip(cells[:count], cells[count:])]
+
+
+def wanted(table, dead):
+    """The model's cells of the two nodes, where the dead machine's strip holds `dead` in every cell."""
+    cells = []
+    for k in range(make_bay.STRIPS):
+        cells += [dead] * (make_bay.ROWS * make_bay.WIDTH) if k == make_bay.DEAD else make_bay.strip(k)
+    cells += [make_bay.zone_of(column) for _ in range(make_bay.ROWS) for column in range(make_bay.COLUMNS)]
+    number, records = model.verdict(table)
+    assert number == 0, records
+    fields = model.all_fields(table, records, [cell or 0 for cell in cells], [int(cell is not None) for cell in cells])
+    return [list(fields[node].values()) for node in (FIELD, STRONGEST)]
+
+
+def picture(text, title):
+    """The lines of the picture under that title."""
+    rest = text[text.index(title):].split('\n\n')
+    return rest[2].split('\n')
+
+
+def test_pictures(tally, text, cells):
+    shown = picture(text, 'The field at six')
+    tally.same('rows of the picture', len(shown), SHAPE[0])
+    tally.same('its width', {len(line) for line in shown}, {2 * SHAPE[1]})
+    tally.same('no number in a cell', re.search('[0-9]', ''.join(shown)), None)
+    hatched = [line[2 * column:2 * column + 2] == '//' for line in shown for column in range(SHAPE[1])]
+    tally.same('hatched where it is a gap', hatched, [cell is None for cell in cells])
+    first = picture(text, 'What version one would have shown')
+    tally.same('version one hatches nothing', '//' in ''.join(first), False)
+    for name, gaps in (('field', cells.count(None)), ('zeros', 0)):
+        tree = xml.etree.ElementTree.parse(os.path.join(OUT, name + '.svg'))
+        kinds = [element.get('class') for element in tree.iter() if element.tag.endswith('rect')]
+        tally.same(name + '.svg', (kinds.count('known'), kinds.count('gap')), (len(cells) - gaps, gaps))
+
+
+def main():
+    tally = Tally()
+    done = subprocess.run([os.path.join(ROOT, 'demo', 'run')], capture_output=True, text=True, check=False, env={**os.environ, 'TERM': 'dumb', 'COLUMNS': '80'})
+    tally.same('the demo ends well', (done.returncode, done.stderr), (0, ''))
+    with open(os.path.join(ROOT, 'demo', 'bay.lup'), encoding='utf-8') as file:
+        table = lupasm.table_of(file.read())
+    field, strongest = wanted(table, None)
+    tally.same('the field', read_field(os.path.join(OUT, 'field.field')), (SHAPE, field))
+    tally.same('the strongest', read_field(os.path.join(OUT, 'strongest.field')), ((1, SHAPE[1]), strongest))
+    tally.same('with zeros', read_field(os.path.join(OUT, 'zeros.field')), (SHAPE, wanted(table, 0)[0]))
+    gaps = [k % SHAPE[1] in DEAD for k in range(SHAPE[0] * SHAPE[1])]
+    tally.same('a gap in the columns of the dead strip and nowhere else', [cell is None for cell in field], gaps)
+    tally.same('the missing strip is named', done.stdout.count(f'missing: demo/strip-{make_bay.DEAD:02}.field'), 2)
+    test_pictures(tally, done.stdout, field)
+    with open(os.path.join(OUT, 'bay.plan'), 'rb') as file:
+        listed = subprocess.run([os.path.join(ROOT, 'build', 'list')], stdin=file, capture_output=True, text=True, check=True).stdout
+    tally.same('the listing', listed in done.stdout, True)
+    with open(os.path.join(OUT, 'field.svg'), encoding='utf-8') as fresh, open(os.path.join(ROOT, 'docs', 'bay.svg'), encoding='utf-8') as kept:
+        tally.same('the picture of README is this one', fresh.read() == kept.read(), True)
+    tally.finish()
+
+
+if __name__ == '__main__':
+    main()

@@ -1,0 +1,185 @@
+"""What lup has to write, worded here from the papers and computed by the independent model."""
+
+import re
+import struct
+from math import prod
+
+import model
+
+OPERATIONS = ('CONST PARAM PERMUTE FLIP RESHAPE EXPAND PAD SHRINK CAST ADD MUL MAX IDIV MOD CMPLT CMPNE AND OR WHERE REDUCE LOAD').split()
+TYPES = ('bool', 'u8', 'i16', 'i32')
+SHADES = '.:-=+*#%@'
+LARGE = 1048576
+
+# The refusals of a plan file. 1, 2 and 3 cannot come out of bytes that were unpacked (23 and 24 come first, unused words are zero); 13 and 14 are
+# the program's own lengths and rooms; 15 is a flag that makes a field file unreadable.
+RULES = {
+    4: 'source negative or not earlier',
+    5: 'type not 0..3',
+    6: 'type rule broken (operands differ, bool misplaced, or WHERE condition not bool)',
+    7: 'row or number wrong',
+    8: 'shapes disagree, or over 1048576 elements',
+    9: 'two devices',
+    10: 'divisor bounds contain 0',
+    11: 'bounds leave the type',
+    12: 'all nodes together over 4194304 elements',
+    16: 'known number outside limits',
+    17: 'lookup node or element not there',
+    20: 'bytes end before or inside a number',
+    21: 'number not in its shortest form of at most 5 bytes',
+    22: 'bytes left over',
+    23: 'node count not 1..256',
+    24: 'operation not 0..20',
+}
+# What rule 7 asks of each operation.
+ROWS = {
+    'PARAM': 'slot not its turn or over 15, low above high, device not 1..255, or no shape',
+    'PERMUTE': 'not each axis of the source once',
+    'FLIP': 'not a flag 0 or 1 for each axis of the source',
+    'RESHAPE': 'no shape',
+    'EXPAND': 'no shape',
+    'PAD': 'no shape, or an offset not 0..1048576 or past the rank',
+    'SHRINK': 'no shape, or an offset not 0..1048576 or past the rank',
+    'REDUCE': 'number neither 0 nor 1, or not a flag 0 or 1 for each axis of the source',
+    'LOAD': 'device not 1..255',
+}
+
+
+def shape_text(extents):
+    return 'x'.join(map(str, extents)) or '-'
+
+
+# ------------------------------------------------------------------ refusals
+
+def refusal_text(name, data):
+    """The message for a plan file that is refused."""
+    number, place, _ = model.unpack_and_verdict(data)
+    if number >= 20:
+        return f'lup: {name}: refused {number} at byte {place}: {RULES[number]}\n'
+    if number == 12:
+        return f'lup: {name}: refused 12: {RULES[12]}\n'
+    table = [0] * (17 * 256)
+    model.unpack(data, table)
+    operation = OPERATIONS[table[17 * place]]
+    row = ': ' + ROWS[operation] if number == 7 else ''
+    return f'lup: {name}: refused {number} at node {place} ({operation}): {RULES[number]}{row}\n'
+
+
+def position_text(name, files, table, values, place):
+    """The message for a known number outside its limits, 16."""
+    start, slot = 0, 0
+    for position, record in enumerate(model.verdict(table)[1]):
+        if table[17 * position] != model.PARAM:
+            continue
+        if place < start + prod(record.extents):
+            break
+        start, slot = start + prod(record.extents), slot + 1
+    where = place_text(record.extents, place - start)
+    return (f'lup: {files[slot]}: refused 16 at element {place - start}{" (" + where + ")" if where else ""} of PARAM {slot} (node {position} of {name}, '
+            f'input position {place}): {RULES[16]}: {values[place]}, not {record.low}..{record.high}\n')
+
+
+# ------------------------------------------------------------------- lookups
+
+def place_text(extents, element):
+    *front, row, column = (0, 0, *model.coordinates_at(element, extents))
+    axes = [f'row {row}', f'column {column}'][2 - min(len(extents), 2):]
+    picture = ['picture ' + ','.join(map(str, front[2:]))] if len(extents) > 2 else []
+    return ' '.join(picture + axes)
+
+
+def pads_before(table, node):
+    """The PADs that a lookup from the node passes or stops at."""
+    found = []
+    while model.PERMUTE <= table[17 * node] <= model.SHRINK or table[17 * node] == model.LOAD:
+        found += [node] * (table[17 * node] == model.PAD)
+        node = table[17 * node + 1]
+    return found
+
+
+def lookup_texts(name, table, node, element):
+    """Exit status, standard output and standard error of a lookup in an accepted plan."""
+    records = model.verdict(table)[1]
+    reply = model.lookup(table, node, element)
+    if reply.number == 17 and node >= len(records):
+        return 1, '', f'lup: {name}: refused 17: {RULES[17]}: no node {node}, the last is {len(records) - 1}\n'
+    if reply.number == 17:
+        last = prod(records[node].extents) - 1
+        operation = OPERATIONS[table[17 * node]]
+        return 1, '', f'lup: {name}: refused 17: {RULES[17]}: no element {element} in node {node} ({operation}), its last is {last}\n'
+    if reply.found == 2:
+        pads = pads_before(table, node)
+        which = f'node {pads[0]}' if len(pads) == 1 else 'one of the nodes ' + ', '.join(map(str, pads))
+        return 0, f'a gap: PAD put it there ({which})\n', ''
+    words, extents = table[17 * reply.node:17 * reply.node + 17], records[reply.node].extents
+    what = f'{OPERATIONS[words[0]]} of shape {shape_text(extents)}'
+    if words[0] == model.PARAM:
+        what = f'PARAM {words[5]} of shape {shape_text(extents)}'
+    if words[0] == model.CONST:
+        what = f'CONST of the number {words[5]}'
+    where = place_text(extents, reply.element)
+    return 0, f'node {reply.node} element {reply.element}: {what}{", " + where if where else ""}\n', ''
+
+
+# -------------------------------------------------------------------- fields
+
+def field_bytes(extents, cells):
+    """A field file; None is a gap."""
+    values = [0 if cell is None else cell for cell in cells]
+    flags = [int(cell is not None) for cell in cells]
+    return struct.pack(f'<8sQ{len(extents)}Q{len(cells)}q{len(cells)}B', b'LUPFIELD', len(extents), *extents, *values, *flags)
+
+
+def read_field(data):
+    """Extents and cells of a field file; None where it is unreadable."""
+    if len(data) < 16 or data[:8] != b'LUPFIELD':
+        return None
+    rank = int.from_bytes(data[8:16], 'little')
+    if rank > 4 or len(data) < 16 + 8 * rank:
+        return None
+    extents = struct.unpack_from(f'<{rank}Q', data, 16)
+    count = prod(extents)
+    if not all(1 <= extent <= LARGE for extent in extents) or count > LARGE or len(data) != 16 + 8 * rank + 9 * count:
+        return None
+    numbers = struct.unpack_from(f'<{count}q{count}B', data, 16 + 8 * rank)
+    if any(flag > 1 for flag in numbers[count:]):
+        return None
+    return extents, [value if flag else None for value, flag in zip(numbers[:count], numbers[count:])]
+
+
+# ------------------------------------------------------------------- drawing
+
+def step(known, value, steps):
+    """The place of a value among equal steps from the least known number to the greatest."""
+    span = max(known) - min(known)
+    return min(steps - 1, (value - min(known)) * steps // span) if span else steps // 2
+
+
+def titles(extents):
+    if len(extents) < 3:
+        return ['']
+    return ['picture ' + ','.join(map(str, place)) + '\n' for place in model.all_coordinates(extents[:-2])]
+
+
+def drawing(name, extents, cells):
+    """What lup show writes."""
+    known = [cell for cell in cells if cell is not None]
+    drawn = ['//' if cell is None else 2 * SHADES[step(known, cell, len(SHADES))] for cell in cells]
+    rows, columns = ((1, 1) + tuple(extents))[-2:]
+    text = f'{name}, shape {shape_text(extents)}\n\n'
+    for picture, title in enumerate(titles(extents)):
+        first = picture * rows * columns
+        text += title + ''.join(''.join(drawn[first + row * columns:first + (row + 1) * columns]) + '\n' for row in range(rows)) + '\n'
+    if not known:
+        text += 'no known number\n'
+    elif min(known) == max(known):
+        text += f'{2 * SHADES[len(SHADES) // 2]} every known number: {known[0]}\n'
+    else:
+        text += f'{min(known)} {" ".join(2 * shade for shade in SHADES)} {max(known)}\n'
+    return text + f'// gap: {cells.count(None)} of {len(cells)} cells\n'
+
+
+def picture_rows(text):
+    """The lines of a drawing that hold cells: all between the shape and the legend that are no titles."""
+    body = text.split('\n\n', 1)[1].rsplit('\n\n', 1)[0]
+    return [line for line in body.split('\n') if line and not re.fullmatch(r'picture \d+(,\d+)?', line)]
