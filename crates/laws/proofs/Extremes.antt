@@ -54,15 +54,6 @@ pub le-maxZ-right : (a b : ℤ) → b ≤ℤ maxZ a b
 unfolding maxZ
 le-maxZ-right a b = pick (λ z. b ≤ℤ z) a b b a (λ k. omega arithℤ) (λ k. omega arithℤ)
 
--- the same of four
-pub min4-of : (P : ℤ → Type 0) (a b c d : ℤ) → P a → P b → P c → P d → P (min4 a b c d)
-unfolding min4
-min4-of P a b c d p q r s = minZ-of P (minZ a b) (minZ c d) (minZ-of P a b p q) (minZ-of P c d r s)
-
-pub max4-of : (P : ℤ → Type 0) (a b c d : ℤ) → P a → P b → P c → P d → P (max4 a b c d)
-unfolding max4
-max4-of P a b c d p q r s = maxZ-of P (maxZ a b) (maxZ c d) (maxZ-of P a b p q) (maxZ-of P c d r s)
-
 -- m is not above any of the four, not below any of them
 pub record Below4 (m a b c d : ℤ) : Type 0 where
   pub of-0 : m ≤ℤ a

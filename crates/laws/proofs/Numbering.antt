@@ -1,6 +1,6 @@
 -- Row-major numbering: ravel and coord are each other's inverse; extents of 1 in front change no number.
 use Prim.Native.Nat.{ℕ, zero, suc, _*_, _%_, _<_, suc-le-suc}
-use native.Mathlib.Nat.{not-suc-le-zero, zero-lt-suc, zero-mul, zero-add, one-mul, mul-assoc, mul-pos, mod-lt, div-add-mod', div-eq-of-lt, mod-eq-of-lt, div-lt-iff-lt-mul}
+use native.Mathlib.Nat.{not-suc-le-zero, zero-lt-suc, one-mul, mul-assoc, mul-pos, mod-lt, div-add-mod', div-eq-of-lt, mod-eq-of-lt, div-lt-iff-lt-mul}
 use native.Mathlib.Omega.{arith}
 use mathlib.Core.Path.{_≡_, refl}
 use mathlib.Core.List.{List, [], _∷_, _++_}
@@ -66,10 +66,6 @@ coord-front s e h = div-eq-of-lt h
 pub coord-rest : (s : List ℕ) (e : ℕ) → e < count s → (k : ℕ) → coord (1 ∷ s) e (suc k) ≡ coord s e k
 unfolding coord
 coord-rest s e h k = rw (mod-eq-of-lt h)
-
-pub ravel-front : (s : List ℕ) (c d : ℕ → ℕ) → c 0 ≡ 0 → ((k : ℕ) → c (suc k) ≡ d k) → ravel (1 ∷ s) c ≡ ravel s d
-unfolding ravel
-ravel-front s c d z h = rw (z, zero-mul, zero-add) (ravel-same s (λ k. c (suc k)) d h)
 
 pub count-front : (n : ℕ) (s : List ℕ) → count (replicate n 1 ++ s) ≡ count s
 unfolding count

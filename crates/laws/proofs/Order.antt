@@ -36,7 +36,3 @@ within-of {x} {lo} {hi} e =
 
 pub of-within : {x lo hi : ℤ} → Within x lo hi → (leZ lo x && leZ x hi) ≡ true
 of-within {x} {lo} {hi} h = and-true-of (leZ lo x) (leZ x hi) (le-leZ (h .low)) (le-leZ (h .high))
-
--- an interval whose ends lie in another
-pub within-trans : {z a b c d : ℤ} → Within z a b → Within a c d → Within b c d → Within z c d
-within-trans p q r = omega arithℤ

@@ -5,7 +5,7 @@ use Prim.Native.Nat.{ℕ, zero, suc, _+_, _*_, _-_, _≤_, _<_}
 use native.Mathlib.Omega.{arith, by-contra}
 use lib.Dec.{T, ltb, ltb→lt, nltb→le, leb→le, le→leb, lt→ltb}
 use lib.IntN.{ℤ, pos, negsuc, negℤ, subℕ, _+ℤ_, _-ℤ_, _*ℤ_}
-use lib.Signed.{ltZ, leZ, _≤ℤ_, _<ℤ_, ltZ-no, ltZ-yes, leZ-yes, clashℤ}
+use lib.Signed.{ltZ, leZ, _≤ℤ_, _<ℤ_, ltZ-no, ltZ-yes, clashℤ}
 
 -- z is up z - dn z, and one of the two is 0
 abbrev pub up : ℤ → ℕ
@@ -85,16 +85,6 @@ mul-parts (pos a) (negsuc b) = omega (arith, neg-nat (a * suc b))
 mul-parts (negsuc a) (pos b) = omega (arith, neg-nat (suc a * b))
 mul-parts (negsuc a) (negsuc b) = omega arith
 
--- negated facts, to list
-pub not-lt-parts : {a b : ℤ} → (a <ℤ b → ⊥) → up b + dn a ≤ up a + dn b
-not-lt-parts {a} {b} h = by-contra (up b + dn a) (up a + dn b) (λ k. h (of-lt k))
-
-pub not-le-parts : {a b : ℤ} → (a ≤ℤ b → ⊥) → up b + dn a < up a + dn b
-not-le-parts {a} {b} h = by-contra (suc (up b + dn a)) (up a + dn b) (λ k. h (of-le (omega arith)))
-
-pub ne-parts : {a b : ℤ} → (a ≡ b → ⊥) → up a + dn b ≡ up b + dn a → ⊥
-ne-parts h k = h (of-eq k)
-
 -- a test of order, as a branch leaves it, by parts
 pub ltZ-true : (a b : ℤ) → ltZ a b ≡ true → up a + dn b < up b + dn a
 ltZ-true a b e = lt-parts {a = a} {b = b} (record { lt = subst T (sym e) tt })
@@ -117,14 +107,8 @@ is-false : (t : Bool) → (T t → ⊥) → t ≡ false
 is-false true h = absurd (h tt)
 is-false false h = refl
 
-pub lt-ltZ : {a b : ℤ} → a <ℤ b → ltZ a b ≡ true
-lt-ltZ {a} {b} h = is-true (ltZ a b) (h .lt)
-
 pub le-ltZ : {a b : ℤ} → b ≤ℤ a → ltZ a b ≡ false
 le-ltZ {a} {b} h = is-false (ltZ a b) (λ t. clashℤ (ltZ-yes {a = a} {b = b} t) h)
 
 pub le-leZ : {a b : ℤ} → a ≤ℤ b → leZ a b ≡ true
 le-leZ {a} {b} h = is-true (leZ a b) (h .le)
-
-pub lt-leZ : {a b : ℤ} → b <ℤ a → leZ a b ≡ false
-lt-leZ {a} {b} h = is-false (leZ a b) (λ t. clashℤ h (leZ-yes {a = a} {b = b} t))

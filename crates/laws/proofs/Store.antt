@@ -3,7 +3,7 @@ use Prim.Native.Nat.{ℕ, zero, suc, _+_, _*_, _≤_, _<_}
 use native.Mathlib.Nat.{eq-or-lt-of-le, add-zero, add-suc, add-assoc, add-mul, one-mul}
 use native.Mathlib.Numerals.{add-one}
 use native.Mathlib.Omega.{arith}
-use mathlib.Core.Path.{_≡_, refl, sym, ap, _∙_}
+use mathlib.Core.Path.{_≡_, refl, sym, _∙_}
 use mathlib.Core.List.{List, _++_, append-nil, append-assoc}
 use mathlib.Core.Logic.{⊎-elim}
 use lib.ListN.{length, getD, set, take, drop, length-set, length-append, take-append-drop}
@@ -96,9 +96,6 @@ module _ {A : Type 0} where
   pub store-again : (l m m′ : List A) (s n : ℕ) (f g h : ℕ → A) → m ≡ store l s n f → m′ ≡ store m s n g
       → ((k : ℕ) → k < n → g k ≡ h k) → m′ ≡ store l s n h
   store-again l m m′ s n f g h e e′ q = e′ ∙ store-same m s n g h q ∙ rw (e, store-over)
-
-  pub store-still : (l m : List A) (s n : ℕ) (f g : ℕ → A) → m ≡ store l s n f → ((k : ℕ) → k < n → f k ≡ g k) → m ≡ store m s n g
-  store-still l m s n f g e q = e ∙ store-same l s n f g q ∙ sym (store-over l s n f g) ∙ ap (λ (x : List A). store x s n g) (sym e)
 
   -- by lists: what is before, the values, what is after
   pub store-tab : (l : List A) (s n : ℕ) (f : ℕ → A) → s + n ≤ length l → store l s n f ≡ take s l ++ tab n f ++ drop (s + n) l

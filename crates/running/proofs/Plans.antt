@@ -15,7 +15,7 @@ use Rattle.plan.specs.Words.{nodeAt, element, nodeCount}
 use Rattle.bounds.proofs.Sound.{In, wider}
 use Rattle.rules.specs.declared.Record.{Record}
 use Rattle.rules.specs.Rules.{Derived, noSource}
-use Rattle.verifier.specs.Check.{countOf, totalOf, totalLimit}
+use Rattle.verifier.specs.Check.{countOf}
 use Rattle.verifier.specs.Meets.{NodesMeet, PlanMeets}
 use Rattle.verifier.proofs.Accepted.{accepted-meets}
 use Rattle.verifier.proofs.Numbers.{few-nodes}
@@ -68,9 +68,6 @@ module _ (t : List ℤ) (records : List Record) (n : ℕ) (checked : Checked t r
 
   pub nodes-meet : NodesMeet t n (nodesOf records n)
   nodes-meet = subst (λ (k : ℕ). NodesMeet t k nodes) counted (plan .nodes)
-
-  pub total-few : totalOf (nodesOf records n) ≤ totalLimit
-  total-few = plan .total
 
   pub table-long : 17 * n ≤ length t
   unfolding nodeCount

@@ -13,7 +13,7 @@ use Rattle.laws.proofs.Lists.{take-whole}
 use Rattle.plan.specs.declared.Row.{Row}
 use Rattle.plan.specs.Words.{listOf}
 use Rattle.plan.proofs.ByOperation.{_then_, for-range}
-use Rattle.shapes.specs.Rows.{extentLimit, rowOf, isShapeRow, isFlagRow, isOffsetRow, isPermutation}
+use Rattle.shapes.specs.Rows.{extentLimit, rowOf, isShapeRow, isOffsetRow, isPermutation}
 use Rattle.shapes.specs.Rules.{wordOf}
 use Rattle.shapes.specs.Shown.{Narrow}
 
@@ -115,7 +115,3 @@ module _ (row : Row) where
   pub shape-narrow : isShapeRow (listOf row) ≡ true → Narrow row
   unfolding isShapeRow
   shape-narrow = row-narrow (λ (n : ℕ). leb n extentLimit) (λ n e. leb-true n extentLimit e) _ row
-
-  pub flag-narrow : (rank : ℕ) → isFlagRow rank (listOf row) ≡ true → Narrow row
-  unfolding isFlagRow
-  flag-narrow rank = row-narrow (λ (n : ℕ). leb n 1) (λ n e. omega (arith, leb-true n 1 e)) rank row

@@ -18,7 +18,7 @@ use Rattle.plan.specs.Types.{contains, rangeOf}
 use Rattle.plan.specs.Words.{nodeAt, listOf}
 use Rattle.shapes.specs.Rows.{isPermutation}
 use Rattle.shapes.specs.Rules.{elementLimit, shapesAgree, resultExtents}
-use Rattle.shapes.proofs.Extents.{Extents, no-extents, result-extents, some-element}
+use Rattle.shapes.proofs.Extents.{Extents, no-extents, result-extents}
 use Rattle.bounds.specs.Rules.{resultBounds}
 use Rattle.rules.specs.Rules.{Derived, noSource, sourceOf, implies, sourcesEarlier, shapeRight, boundsInType, derivedOf}
 use Rattle.rules.proofs.RowRule.{permute-rule}
@@ -113,6 +113,3 @@ module _ (t : List ℤ) (n : ℕ) (ds : List Derived) (m : NodesMeet t n ds) whe
       let has = source-has (λ (d : Derived). Extents (d .extents)) ds i no-extents before (nodeAt t i .op) in
       rw (extents-derived t i (take i ds) (getD ds i noSource) (m .each i h))
       (result-extents (nodeAt t i) _ _ _ (has 1 (nodeAt t i .source1)) (has 2 (nodeAt t i .source2)) (has 3 (nodeAt t i .source3))))
-
-  pub some-elements : (i : ℕ) → i < n → 0 < countOf (getD ds i noSource)
-  some-elements i h = some-element (getD ds i noSource .extents) (extents-at i h .positive)

@@ -17,10 +17,9 @@ use Rattle.plan.specs.declared.Row.{Row}
 use Rattle.plan.specs.Words.{listOf, element}
 use Rattle.shapes.specs.Rules.{extent, wordOf, sameRank}
 use Rattle.shapes.specs.Sources.{inSource, padSource}
-use Rattle.shapes.proofs.Extents.{Positive}
 use Rattle.views.specs.Views.{cellsOf}
 use Rattle.views.specs.Walks.{InFront, inBand, rowInside, rowStart, bandPlace, from}
-use Rattle.views.proofs.Fronts.{grid-rank, grid-cells, grid-positive, extent-front, extent-rest, ravel-grid, grid-zero, grid-same, same-rank, words-front, words-rest}
+use Rattle.views.proofs.Fronts.{grid-rank, grid-cells, extent-front, extent-rest, ravel-grid, grid-zero, grid-same, same-rank, words-front, words-rest}
 use Rattle.views.proofs.Axiswise.{coord-0, coord-1, coord-2, coord-3, by-strides}
 
 -- ---- tests of all axes, those in front passing
@@ -130,6 +129,3 @@ module _ (R O S : Row) (i : ℕ) (b : rowInside R O S i ≡ true) where
       let inner : S .r3 - 1 < S .r3 = omega arith in
       rw (mul-assoc (S .r0 * S .r1) (S .r2) (S .r3), mul-assoc (S .r0) (S .r1) (S .r2 * S .r3))
       (omega (arith, digits-lt (first-in .1) (digits-lt (second-in .1) (digits-lt (third-in .1) inner))))
-
-pub pad-rows : (s : List ℕ) (S R O : Row) (base i : ℕ) → InFront 1 s S → Positive s → rowInside R O S i ≡ true → rowStart R O S base i + S .r3 ≤ base + count s
-pad-rows s S R O base i under p b = rw (← grid-cells s S under) (row-in-source R O S i b base (grid-positive s S under p 3))
