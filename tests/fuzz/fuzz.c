@@ -1,4 +1,4 @@
-/* Calls every export on random and mutated inputs. Each buffer of a call lies against a page that cannot be touched, before it or after it by chance, so that
+/* Calls every export on random and mutated inputs. Each buffer of a call lies against a page that cannot be touched, before it or after it in turn, so that
  * a read or a write past either end stops the program, which then names the seed and the turn. A refusal must leave every buffer as it was, an
  * accepted call every place that it does not write; what it writes must keep what the header says.
  * usage: fuzz SECONDS [SEED]     last line: 'N passed, 0 failed' */
@@ -52,12 +52,14 @@ static void expect(int holds, const char *what) {
 typedef struct {
     uint8_t *page, *at, *copy;
     size_t room, bytes;
+    unsigned bit;
 } buffer;
 
-static buffer make(size_t most) {
+/* Bit: which bit of the turn's number chooses the side, so that all sides of all buffers come together in 128 turns. */
+static buffer make(size_t most, unsigned bit) {
     size_t page = (size_t)sysconf(_SC_PAGESIZE), room = (most + page - 1) / page * page;
     uint8_t *all = mmap(NULL, room + 2 * page, PROT_READ | PROT_WRITE, MAP_PRIVATE | MAP_ANONYMOUS, -1, 0);
-    buffer b = {all + page, NULL, malloc(room + 1), room, 0};
+    buffer b = {all + page, NULL, malloc(room + 1), room, 0, bit};
     if (all == MAP_FAILED || !b.copy || mprotect(all, page, PROT_NONE) || mprotect(all + page + room, page, PROT_NONE)) {
         perror("fuzz");
         exit(2);
@@ -67,7 +69,7 @@ static buffer make(size_t most) {
 
 /* Lays the bytes against one end of the pages; where there are none of either, any bytes. */
 static void lay(buffer *b, const void *bytes, size_t n) {
-    b->at = b->page + (one_in(2) ? 0 : b->room - n);
+    b->at = b->page + (turn >> b->bit & 1 ? 0 : b->room - n);
     b->bytes = n;
     if (bytes) {
         if (n) memcpy(b->at, bytes, n);
@@ -370,8 +372,8 @@ int main(int argc, char **argv) {
     signal(SIGBUS, stopped);
     signal(SIGILL, stopped);
     signal(SIGFPE, stopped);
-    packed = make(MOST_BYTES), table = make(8 * MOST_WORDS), derived = make(8 * RECORD * (MOST_NODES + 2));
-    values = make(8 * MOST_CELLS), flags = make(MOST_CELLS), out_values = make(8 * (MOST_CELLS + 8)), out_flags = make(MOST_CELLS + 8);
+    packed = make(MOST_BYTES, 0), table = make(8 * MOST_WORDS, 1), derived = make(8 * RECORD * (MOST_NODES + 2), 2);
+    values = make(8 * MOST_CELLS, 3), flags = make(MOST_CELLS, 4), out_values = make(8 * (MOST_CELLS + 8), 5), out_flags = make(MOST_CELLS + 8, 6);
     for (turn = 0; time(NULL) < end; turn++) {
         state = seed * 1000003u + turn;
         one_turn();
