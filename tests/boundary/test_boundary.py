@@ -202,8 +202,8 @@ def test_unpack_check(tally, library, rng, count):
 
 
 TESTS = {'lup_unpack': test_unpack, 'lup_check': test_check, 'lup_unpack_check': test_unpack_check}
-# test_run.py drives lup_run.
-TESTED = {*TESTS, 'lup_run'}
+# test_run.py drives lup_run, test_lookup.py lup_lookup.
+TESTED = {*TESTS, 'lup_run', 'lup_lookup'}
 
 
 def main():
