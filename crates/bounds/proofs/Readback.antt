@@ -67,7 +67,7 @@ pub widened : {z : ℤ} → SFits w32 z → R (toZ w32 (ofZ w32 z)) ≡ z
 widened {z} f = rw (toZ-ofZ f) (R-is (small-fits (fit32-small f)))
 
 -- a number within 32 bits, narrowed
-pub narrow-fits : {z : ℤ} → Within z (negsuc 2147483647) (pos 2147483647) → SFits w32 z
+narrow-fits : {z : ℤ} → Within z (negsuc 2147483647) (pos 2147483647) → SFits w32 z
 narrow-fits {z} w = omega (arithM, w)
 
 pub narrowed-fits : {z : ℤ} → SFits w64 z → Within z (negsuc 2147483647) (pos 2147483647) → SFits w32 (R z)

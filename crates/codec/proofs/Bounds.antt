@@ -82,7 +82,7 @@ abbrev pub PlacedIn : List ℕ → ℕ → Refusal → Type 0
 PlacedIn s from r = (r .number ≤ 24) × (from ≤ length s → r .place ≤ length s)
 
 module _ (s : List ℕ) (from : ℕ) where
-  pub number-holds : (at : ℕ) → (from ≤ length s → at ≤ length s) → Holds (EndsIn s) (PlacedIn s from) (numberAt s at)
+  number-holds : (at : ℕ) → (from ≤ length s → at ≤ length s) → Holds (EndsIn s) (PlacedIn s from) (numberAt s at)
   unfolding numberAt
   number-holds at h = holds-map (EndsIn s) (EndsIn s) (PlacedAt at) (PlacedIn s from) (groupsAt 5 s at at) (λ r q. q) (λ r q. (q .0, λ i. rw (q .1) (h i))) (groups-hold 5 s at at)
 
@@ -96,7 +96,7 @@ module _ (s : List ℕ) (from : ℕ) where
       (λ _. holds-then (EndsIn s) (WordsIn s from (suc n)) (PlacedIn s from) (numberAt s (u .next)) add (number-holds (u .next) (h .1)) (λ r q. (long (wordOf (r .value)), λ _. q)))
       (λ _. (long (pos 0), h .1))
 
-  pub words-hold : (op at k : ℕ) → (from ≤ length s → at ≤ length s)
+  words-hold : (op at k : ℕ) → (from ≤ length s → at ≤ length s)
       → Holds (WordsIn s from (suc k)) (PlacedIn s from) (inTurn (readWord op s) (record { words = pos op ∷ []; next = at }) k)
   words-hold op at k h =
       holds-turn (λ (k : ℕ). WordsIn s from (suc k)) (PlacedIn s from) (readWord op s) (record { words = pos op ∷ []; next = at }) (refl, h)
@@ -117,7 +117,7 @@ module _ (s : List ℕ) (from : ℕ) where
       (λ more. accepted (record { words = u .words ++ more .words; next = more .next })) (node-holds (u .next) (h .1))
       (λ more q. (omega (arith, length-append (u .words) (more .words), h .0, q .0), q .1))
 
-pub nodes-hold : (s : List ℕ) (at n : ℕ) → Holds (WordsIn s at (17 * n)) (PlacedIn s at) (nodesAt n s at)
+nodes-hold : (s : List ℕ) (at n : ℕ) → Holds (WordsIn s at (17 * n)) (PlacedIn s at) (nodesAt n s at)
 unfolding nodesAt
 nodes-hold s at n =
     holds-turn (λ (n : ℕ). WordsIn s at (17 * n)) (PlacedIn s at) (addNode s) (record { words = []; next = at }) (refl, λ i. i) (λ n u h. add-holds s at n u h) n

@@ -37,10 +37,10 @@ walk-below {g} {v} w j h = omega (arith, place-le g v j (rw (w .cells) h), w .at
 
 -- what a walk leaves: of a field that stands at its base, the cells f 0, f 1, ..
 module _ {g : Row} {v : View} {base n : ℕ} {f : ℕ → ℕ} (vs : List ℤ) (fs : List ℕ) (start : ℕ) (a : Field) (stands : Stands vs fs base a) (w : Walks g v base n (count (a .extents)) f) where
-  pub walked-values : moved (pos 0) vs g v start ≡ store vs start n (λ (e : ℕ). valueOf (getD (a .cells) (f e) gap))
+  walked-values : moved (pos 0) vs g v start ≡ store vs start n (λ (e : ℕ). valueOf (getD (a .cells) (f e) gap))
   walked-values = rw (w .cells) (store-same vs start n _ _ (λ e h. ap (λ (p : ℕ). getD vs p (pos 0)) (w .at e h) ∙ stands .values (f e) (walk-below w e h)))
 
-  pub walked-flags : moved 0 fs g v start ≡ store fs start n (λ (e : ℕ). flagOf (getD (a .cells) (f e) gap))
+  walked-flags : moved 0 fs g v start ≡ store fs start n (λ (e : ℕ). flagOf (getD (a .cells) (f e) gap))
   walked-flags = rw (w .cells) (store-same fs start n _ _ (λ e h. ap (λ (p : ℕ). getD fs p 0) (w .at e h) ∙ stands .flags (f e) (walk-below w e h)))
 
 -- PERMUTE, FLIP, EXPAND and SHRINK: the cell of the source's element

@@ -125,7 +125,7 @@ module _ (t : List ℤ) (ds : List Derived) (v : verdict t ≡ accepted ds) wher
         let e = words-before parts part-long (length parts) (omega arith) in
         rw (take-all (length parts) parts (omega arith), length-map ds derivedWords) at e
 
-    pub are-written : Written t ds (written (concat (map derivedWords ds)) before)
+    are-written : Written t ds (written (concat (map derivedWords ds)) before)
     unfolding written
     are-written = record { accepts = v; long = omega (arith, all-long, length-append (concat parts) (drop (length (concat parts)) before)); words = words }
       where
@@ -171,7 +171,7 @@ module _ (t : List ℤ) (ds : List Derived) (derived : List ℤ) (w : Written t 
   )
 
   -- the shape that they are
-  pub shape-shown : {r : Shape} → wordsIn r ≡ listOf (rowAt derived (8 * n + 4)) → shown r ≡ getD ds n noSource .extents
+  shape-shown : {r : Shape} → wordsIn r ≡ listOf (rowAt derived (8 * n + 4)) → shown r ≡ getD ds n noSource .extents
   shape-shown e = ap extentsOf (e ∙ words-at) ∙ words-show 4 own (own-proper .positive) (own-proper .ranked)
 
   pub node-there : 17 * n + 17 ≤ length t

@@ -26,7 +26,7 @@ module _ {A : Type 0} (words before : List A) where
   unfolding written
   written-past n e = rw (← e) (drop-append-seam words (drop (length words) before))
 
-  pub written-length : length words ≤ length before → length (written words before) ≡ length before
+  written-length : length words ≤ length before → length (written words before) ≡ length before
   unfolding written
   written-length h = length-append words (drop (length words) before) ∙ omega (arith, length-drop (length words) before, h)
 
@@ -51,14 +51,14 @@ start-length (f ∷ fs) (d ∷ ds) c (suc n) =
     length-append (f .cells) (concat (take n (cellLists fs))) ∙ rw (c .each 0 (zero-lt-suc (length ds)), start-length fs ds rest n) refl
 
 -- a node's elements end where those of all nodes do, or before
-pub place-below : (ds : List Derived) (n : ℕ) → n < length ds → totalOf (take n ds) + countOf (getD ds n noSource) ≤ totalOf ds
+place-below : (ds : List Derived) (n : ℕ) → n < length ds → totalOf (take n ds) + countOf (getD ds n noSource) ≤ totalOf ds
 unfolding totalOf sum
 place-below [] n h = absurd (not-suc-le-zero h)
 place-below (d ∷ ds) zero h = omega arith
 place-below (d ∷ ds) (suc n) h = omega (arith, place-below ds n (le-of-suc-le-suc h))
 
 module _ (fs : List Field) (ds : List Derived) (c : Counted fs ds) where
-  pub cells-length : length (allCells fs) ≡ totalOf ds
+  cells-length : length (allCells fs) ≡ totalOf ds
   unfolding allCells
   cells-length =
       let a : take (length ds) (cellLists fs) ≡ cellLists fs = take-all (length ds) (cellLists fs) (omega (arith, length-map fs (λ (f : Field). f .cells), c .as-many)) in

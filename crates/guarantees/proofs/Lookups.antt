@@ -47,9 +47,6 @@ Agrees t ds fs n e (At p) = SameCell t ds fs n e (p .node) (p .element)
 Agrees t ds fs n e Gap = PaddedGap t ds fs n e
 
 module _ (t : List ℤ) (ds : List Derived) (v : verdict t ≡ accepted ds) (input : List Cell) where
-  abbrev fields : List Field
-  fields = fieldsTo t ds input (length ds)
-
   -- ---- one node back
 
   module _ (n : NodeNumber) (h : n .0 < length ds) (f : among (nodeAt t (n .0) .op) followed ≡ true) where

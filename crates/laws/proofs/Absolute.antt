@@ -1,14 +1,13 @@
--- Absolute values of products and quotients, and numbers between -n and n.
+-- Absolute values of products and floored quotients, and numbers between -n and n.
 use mathlib.Core.Path.{_≡_, refl}
-use Prim.Native.Nat.{ℕ, zero, suc, _*_, _/_, _≤_}
+use Prim.Native.Nat.{ℕ, zero, suc, _*_, _≤_}
 use native.Mathlib.Nat.{div-le-self, mul-le-mul, le-trans}
 use native.Mathlib.Omega.{arith}
 use lib.IntN.{ℤ, pos, negsuc, negℤ, natAbs, _*ℤ_}
-use lib.Signed.{quotZ}
 use Rattle.laws.specs.Integers.{Within, floorDiv}
 use Rattle.laws.proofs.Parts.{arithℤ, neg-parts}
 
--- of a product, and of a quotient toward zero or floored
+-- of a product, and of a floored quotient
 abs-neg : (n : ℕ) → natAbs (negℤ (pos n)) ≡ n
 abs-neg zero = refl
 abs-neg (suc n) = refl
@@ -19,13 +18,7 @@ abs-mul (pos a) (negsuc b) = abs-neg (a * suc b)
 abs-mul (negsuc a) (pos b) = abs-neg (suc a * b)
 abs-mul (negsuc a) (negsuc b) = refl
 
-pub abs-quot : (a b : ℤ) → natAbs (quotZ a b) ≤ natAbs a
-abs-quot (pos a) (pos b) = div-le-self a b
-abs-quot (pos a) (negsuc b) = omega (arith, abs-neg (a / suc b), div-le-self a (suc b))
-abs-quot (negsuc a) (pos b) = omega (arith, abs-neg (suc a / b), div-le-self (suc a) b)
-abs-quot (negsuc a) (negsuc b) = div-le-self (suc a) (suc b)
-
-pub abs-floor : (a b : ℤ) → natAbs (floorDiv a b) ≤ natAbs a
+abs-floor : (a b : ℤ) → natAbs (floorDiv a b) ≤ natAbs a
 unfolding floorDiv
 abs-floor (pos a) (pos b) = div-le-self a b
 abs-floor (negsuc a) (pos b) = omega (arith, div-le-self a b)

@@ -58,7 +58,7 @@ floor-down (pos (suc a)) (pos b) h = omega arithℤ
 floor-down (negsuc a) (pos b) h = omega arithℤ
 
 -- a quotient whose multiple of b is not beyond a is at most one whose next multiple is
-pub up-le : {a b q p : ℤ} → pos 0 <ℤ b → (b *ℤ q) ≤ℤ a → a <ℤ (b *ℤ p +ℤ b) → q ≤ℤ p
+up-le : {a b q p : ℤ} → pos 0 <ℤ b → (b *ℤ q) ≤ℤ a → a <ℤ (b *ℤ p +ℤ b) → q ≤ℤ p
 up-le {a} {b} {q} {p} h below above = ⊎-elim more (λ k. k) (order p q)
   where
     more : p <ℤ q → q ≤ℤ p
@@ -66,7 +66,7 @@ up-le {a} {b} {q} {p} h below above = ⊎-elim more (λ k. k) (order p q)
         let m = mul-mono {c = b} {a = p +ℤ pos 1} {b = q} (omega arithℤ) (omega (arithℤ, add-parts p (pos 1))) in
         omega (arithℤ, eq-parts (mul-suc b p))
 
-pub down-le : {a b q p : ℤ} → b <ℤ pos 0 → a ≤ℤ (b *ℤ p) → (b *ℤ q +ℤ b) <ℤ a → p ≤ℤ q
+down-le : {a b q p : ℤ} → b <ℤ pos 0 → a ≤ℤ (b *ℤ p) → (b *ℤ q +ℤ b) <ℤ a → p ≤ℤ q
 down-le {a} {b} {q} {p} h below above = ⊎-elim more (λ k. k) (order q p)
   where
     more : q <ℤ p → p ≤ℤ q
@@ -194,7 +194,7 @@ remainder-within-down a {b} {lb} {hb} B h =
     omega (arithℤ, add-parts lb (pos 1))
 
 -- the language's quotient and remainder, toward zero
-pub quot-rem : (a b : ℤ) → b *ℤ quotZ a b +ℤ remZ a b ≡ a
+quot-rem : (a b : ℤ) → b *ℤ quotZ a b +ℤ remZ a b ≡ a
 quot-rem (pos a) (pos b) = omega (arithℤ, div-add-mod a b)
 quot-rem (pos a) (negsuc b) =
     omega (
@@ -222,7 +222,7 @@ quot-rem (negsuc a) (negsuc b) =
       add-parts (negsuc b *ℤ pos (suc a / suc b)) (negℤ (pos (suc a % suc b))),
     )
 
-pub rem-up : (a b : ℤ) → pos 0 <ℤ b → (negℤ b <ℤ remZ a b) × (remZ a b <ℤ b)
+rem-up : (a b : ℤ) → pos 0 <ℤ b → (negℤ b <ℤ remZ a b) × (remZ a b <ℤ b)
 rem-up (pos a) (pos b) h =
     let p : 0 < b = omega arithℤ in
     omega (arithℤ, mod-lt a p, neg-parts (pos b))
@@ -232,21 +232,13 @@ rem-up (negsuc a) (pos b) h =
 rem-up (pos a) (negsuc b) h = absurd (h .lt)
 rem-up (negsuc a) (negsuc b) h = absurd (h .lt)
 
-pub rem-down : (a b : ℤ) → b <ℤ pos 0 → (b <ℤ remZ a b) × (remZ a b <ℤ negℤ b)
+rem-down : (a b : ℤ) → b <ℤ pos 0 → (b <ℤ remZ a b) × (remZ a b <ℤ negℤ b)
 rem-down (pos a) (negsuc b) h = omega (arithℤ, mod-lt a (zero-lt-suc b))
 rem-down (negsuc a) (negsuc b) h = omega (arithℤ, mod-lt (suc a) (zero-lt-suc b), neg-parts (pos (suc a % suc b)))
 rem-down (pos a) (pos b) h = omega arithℤ
 rem-down (negsuc a) (pos b) h = omega arithℤ
 
--- from the language's quotient to the floor: the same, or one less where the remainder is on the other side of 0 from b
-pub quot-floor-up : (a b : ℤ) → pos 0 <ℤ b → pos 0 ≤ℤ remZ a b → quotZ a b ≡ floorDiv a b
-quot-floor-up a b h k =
-    floor-unique-up h (omega (arithℤ, eq-parts (quot-rem a b), rem-up a b h, add-parts (b *ℤ quotZ a b) (remZ a b), add-parts (b *ℤ quotZ a b) b))
-
-pub quot-floor-down : (a b : ℤ) → b <ℤ pos 0 → remZ a b ≤ℤ pos 0 → quotZ a b ≡ floorDiv a b
-quot-floor-down a b h k =
-    floor-unique-down h (omega (arithℤ, eq-parts (quot-rem a b), rem-down a b h, add-parts (b *ℤ quotZ a b) (remZ a b), add-parts (b *ℤ quotZ a b) b))
-
+-- from the language's quotient to the floor: one less where the remainder is on the other side of 0 from b
 less-one : (b q : ℤ) → b *ℤ (q -ℤ pos 1) +ℤ b ≡ b *ℤ q
 less-one b q = sym (mul-suc b (q -ℤ pos 1)) ∙ ap (λ (z : ℤ). b *ℤ z) (-ℤ-+ℤ-cancel q (pos 1))
 

@@ -52,7 +52,7 @@ take-tab zero n f h = refl
 take-tab (suc i) zero f h = absurd (not-suc-le-zero h)
 take-tab (suc i) (suc n) f h = rw (take-tab i n (λ k. f (suc k)) (le-of-suc-le-suc h))
 
-pub drop-tab : {A : Type 0} (i n : ℕ) (f : ℕ → A) → drop i (tab n f) ≡ tab (n - i) (λ (k : ℕ). f (i + k))
+drop-tab : {A : Type 0} (i n : ℕ) (f : ℕ → A) → drop i (tab n f) ≡ tab (n - i) (λ (k : ℕ). f (i + k))
 unfolding tab
 drop-tab zero n f = rw sub-zero (tab-same n f (λ k. f (0 + k)) (λ k q. rw zero-add))
 drop-tab (suc i) zero f = rw zero-sub
@@ -99,7 +99,7 @@ unfolding concat
 concat-append [] yss = refl
 concat-append (xs ∷ xss) yss = rw (concat-append xss yss, append-assoc)
 
-pub concat-length : {A : Type 0} (xss : List (List A)) → length (concat xss) ≡ sum (map length xss)
+concat-length : {A : Type 0} (xss : List (List A)) → length (concat xss) ≡ sum (map length xss)
 unfolding concat sum
 concat-length [] = refl
 concat-length (xs ∷ xss) = rw (length-append, concat-length xss)
@@ -112,18 +112,18 @@ concat-at (xs ∷ xss) zero e d h = rw zero-add (List·getD-append xs (concat xs
 concat-at (xs ∷ xss) (suc n) e d h = rw (length-append, add-assoc, getD-append-add) (concat-at xss n e d h)
 
 -- a number that is in the list
-pub occurs-at : (xs : List ℕ) (i d : ℕ) → i < length xs → 0 < occurrences (getD xs i d) xs
+occurs-at : (xs : List ℕ) (i d : ℕ) → i < length xs → 0 < occurrences (getD xs i d) xs
 unfolding occurrences
 occurs-at [] i d h = absurd (not-suc-le-zero h)
 occurs-at (x ∷ xs) zero d h = rw (eq-eqb x x refl) (omega arith)
 occurs-at (x ∷ xs) (suc i) d h = omega (arith, occurs-at xs i d (le-of-suc-le-suc h))
 
-pub among-occurs : (k : ℕ) (xs : List ℕ) → among k xs ≡ true → 0 < occurrences k xs
+among-occurs : (k : ℕ) (xs : List ℕ) → among k xs ≡ true → 0 < occurrences k xs
 unfolding among occurrences
 among-occurs k [] e = absurd (false≢true e)
 among-occurs k (x ∷ xs) e = or-true (eqb k x) (among k xs) e (λ q. rw q (omega arith)) (λ q. omega (arith, among-occurs k xs q))
 
-pub occurs-among : (k : ℕ) (xs : List ℕ) → 0 < occurrences k xs → among k xs ≡ true
+occurs-among : (k : ℕ) (xs : List ℕ) → 0 < occurrences k xs → among k xs ≡ true
 unfolding among occurrences
 occurs-among k [] h = absurd (not-suc-le-zero h)
 occurs-among k (x ∷ xs) h = bool-cases (eqb k x) (λ q. rw q) (λ q. rw q (occurs-among k xs (omega (arith, rw q at h))))

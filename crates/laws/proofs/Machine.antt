@@ -2,7 +2,7 @@
 use mathlib.Core.Path.{_≡_, sym, ap, _∙_}
 use mathlib.Core.Bool.{Bool, false}
 use Prim.Native.Nat.{ℕ, suc, _+_, _*_, _^_, _≤_, _<_, max}
-use native.Mathlib.Nat.{pos-of-ne-zero, mul-le-mul, lt-of-le-of-lt}
+use native.Mathlib.Nat.{mul-le-mul, lt-of-le-of-lt}
 use native.Mathlib.Omega.{arith}
 use lib.Dec.{T, ltb, lit<}
 use lib.IntN.{ℤ, pos, negsuc, natAbs, _*ℤ_}
@@ -55,15 +55,12 @@ ltZ-read f g e = rw (R-is f, R-is g) at e
 pub leZ-read : {a b : ℤ} {t : Bool} → SFits w64 a → SFits w64 b → leZ (R a) (R b) ≡ t → leZ a b ≡ t
 leZ-read f g e = rw (R-is f, R-is g) at e
 
--- equality of bits, as `==` of two signed locals, or of one and a literal, leaves it; bits-pos for a divisor
+-- equality of bits, as `==` of two signed locals, or of one and a literal, leaves it
 pub bits-eq : {a b : ℤ} → SFits w64 a → SFits w64 b → ofZ w64 a ≡ ofZ w64 b → a ≡ b
 bits-eq f g e = sym (toZ-ofZ f) ∙ ap (toZ w64) e ∙ toZ-ofZ g
 
 pub bits-is : {a : ℤ} {k : ℕ} → SFits w64 a → ofZ w64 a ≡ k → a ≡ toZ w64 k
 bits-is f e = sym (toZ-ofZ f) ∙ ap (toZ w64) e
-
-pub bits-pos : {a : ℤ} → SFits w64 a → (a ≡ pos 0 → ⊥) → 0 < ofZ w64 a
-bits-pos f h = pos-of-ne-zero (λ e. h (bits-is f e))
 
 -- a number fits by the bound that a call's `.ok`, a read's `.given` or a field's `.struct-told .given` has, or by its absolute value
 pub fit-at : (z : ℤ) → mag z < 9223372036854775808 → SFits w64 z
@@ -86,7 +83,7 @@ Small z = Within z (negsuc 2147483647) (pos 2147483648)
 pub small-fits : {z : ℤ} → Small z → SFits w64 z
 small-fits h = omega (arithM, h)
 
-pub small-mul : (a b : ℤ) → Small a → Small b → SFits w64 (a *ℤ b)
+small-mul : (a b : ℤ) → Small a → Small b → SFits w64 (a *ℤ b)
 small-mul a b h k = omega (arithM, mul-small a b h k)
 
 pub read-mul-fits : {a b : ℤ} → Small a → Small b → SFits w64 (R a *ℤ R b)

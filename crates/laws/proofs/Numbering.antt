@@ -14,7 +14,7 @@ unfolding count
 count-pos [] h = omega arith
 count-pos (n ∷ ns) h = mul-pos (h 0 (zero-lt-suc (length ns))) (count-pos ns (λ k q. h (suc k) (suc-le-suc q)))
 
-pub count-append : (s t : List ℕ) → count (s ++ t) ≡ count s * count t
+count-append : (s t : List ℕ) → count (s ++ t) ≡ count s * count t
 unfolding count
 count-append [] t = rw one-mul
 count-append (n ∷ ns) t = rw (count-append ns t, mul-assoc)

@@ -34,17 +34,17 @@ module _ {A : Type 0} where
   length-store l s (suc n) f = rw length-set (length-store l s n f)
 
   -- what stands where: before s and from s + n on what was there, between them what was written
-  pub store-before : (l : List A) (s n : ℕ) (f : ℕ → A) (j : ℕ) (d : A) → j < s → getD (store l s n f) j d ≡ getD l j d
+  store-before : (l : List A) (s n : ℕ) (f : ℕ → A) (j : ℕ) (d : A) → j < s → getD (store l s n f) j d ≡ getD l j d
   unfolding store
   store-before l s zero f j d h = refl
   store-before l s (suc n) f j d h = getD-set-other (store l s n f) (s + n) j (f n) d (λ e. omega arith) ∙ store-before l s n f j d h
 
-  pub store-after : (l : List A) (s n : ℕ) (f : ℕ → A) (j : ℕ) (d : A) → s + n ≤ j → getD (store l s n f) j d ≡ getD l j d
+  store-after : (l : List A) (s n : ℕ) (f : ℕ → A) (j : ℕ) (d : A) → s + n ≤ j → getD (store l s n f) j d ≡ getD l j d
   unfolding store
   store-after l s zero f j d h = refl
   store-after l s (suc n) f j d h = getD-set-other (store l s n f) (s + n) j (f n) d (λ e. omega arith) ∙ store-after l s n f j d (omega arith)
 
-  pub store-at : (l : List A) (s n : ℕ) (f : ℕ → A) (j : ℕ) (d : A) → j < n → s + n ≤ length l → getD (store l s n f) (s + j) d ≡ f j
+  store-at : (l : List A) (s n : ℕ) (f : ℕ → A) (j : ℕ) (d : A) → j < n → s + n ≤ length l → getD (store l s n f) (s + j) d ≡ f j
   unfolding store
   store-at l s zero f j d h q = absurd (omega arith)
   store-at l s (suc n) f j d h q =
@@ -88,7 +88,7 @@ module _ {A : Type 0} where
   store-out l s zero g k x h = refl
   store-out l s (suc n) g k x h = rw (store-out l s n g k x (omega arith), set-comm (store l s n g) k (s + n) x (g n) (λ e. omega arith))
 
-  pub store-over : (l : List A) (s n : ℕ) (f g : ℕ → A) → store (store l s n f) s n g ≡ store l s n g
+  store-over : (l : List A) (s n : ℕ) (f g : ℕ → A) → store (store l s n f) s n g ≡ store l s n g
   unfolding store
   store-over l s zero f g = refl
   store-over l s (suc n) f g = rw (store-out (store l s n f) s n g (s + n) (f n) (omega arith), set-set, store-over l s n f g)

@@ -17,7 +17,7 @@ isAccepted (refused r) = false
 pub never-both : {A G : Type 0} {a : A} {r : Refusal} → accepted a ≡ refused r → G
 never-both e = absurd (true≢false (ap isAccepted e))
 
-pub never-refused : {A G : Type 0} {a : A} {r : Refusal} → refused r ≡ accepted a → G
+never-refused : {A G : Type 0} {a : A} {r : Refusal} → refused r ≡ accepted a → G
 never-refused e = absurd (false≢true (ap isAccepted e))
 
 abbrev found : {A : Type 0} → A → Outcome A → A

@@ -45,7 +45,7 @@ named-type x e m =
     let l : x .dtype ≤ 3 = leb-true (x .dtype) 3 (for-group (λ (k : ℕ). (not (uses k 4) || leb (x .dtype) 3) ≡ true → leb (x .dtype) 3 ≡ true) (x .op) (CONST ∷ PARAM ∷ CAST ∷ []) ((λ q. q) then (λ q. q) then (λ q. q) then tt) m e) in
     omega arith
 
-pub type-byte : (x : Node) (a b : ℕ) → typeNamed x ≡ true → a < 256 → b < 256 → resultType x a b < 256
+type-byte : (x : Node) (a b : ℕ) → typeNamed x ≡ true → a < 256 → b < 256 → resultType x a b < 256
 unfolding resultType
 type-byte x a b e p q =
     by-rows (λ (t : ℕ). t < 256) (x .op) (resultTypes x a b) 0 ((λ m. named-type x e m) then (λ m. p) then (λ m. omega arith) then (λ m. q) then tt) (omega arith)
@@ -62,7 +62,7 @@ join-byte : (d e : ℕ) → d < 256 → e < 256 → joinDevice d e < 256
 unfolding joinDevice
 join-byte d e p q = cond-both (λ (n : ℕ). n < 256) (eqb d 0) e d (λ t. q) (λ t. p)
 
-pub device-byte : (x : Node) (params rank d e f : ℕ) → rowsRight x params rank ≡ true → d < 256 → e < 256 → f < 256 → resultDevice x d e f < 256
+device-byte : (x : Node) (params rank d e f : ℕ) → rowsRight x params rank ≡ true → d < 256 → e < 256 → f < 256 → resultDevice x d e f < 256
 unfolding resultDevice
 device-byte x params rank d e f rows p q r =
     by-rows (λ (t : ℕ). t < 256) (x .op) (deviceRules x d e f) 0

@@ -55,9 +55,6 @@ module _ (t : List ℤ) (n : ℕ) (ds : List Derived) (m : NodesMeet t n ds) (in
   abbrev field : ℕ → Field
   field i = getD (fieldsTo t ds input n) i noField
 
-  abbrev record-of : ℕ → Derived
-  record-of i = getD ds i noSource
-
   module _ (i : ℕ) (h : i < n) (before : (j : ℕ) → j < i → Sound (getD ds j noSource .bounds) (getD (fieldsTo t ds input n) j noField)) where
     matches : (op k : ℕ) (s : NodeNumber) → Matches (sourceOf (take i ds) op k s) (fieldOf (fieldsTo t ds input i) op k s)
     unfolding sourceOf fieldOf

@@ -63,7 +63,7 @@ module _ (t : List ℤ) (ds : List Derived) (input : List Cell) where
   unfolding nodeField
   cells-count i = node-count (nodeAt t i) (getD ds i noSource .extents) (operandsOf t ds input i (fieldsTo t ds input i))
 
-  pub cells-are : (i e : ℕ) → e < countOf (getD ds i noSource)
+  cells-are : (i e : ℕ) → e < countOf (getD ds i noSource)
       → getD (cellsAt i) e gap ≡ evalCell (nodeAt t i) (getD ds i noSource .extents) (operandsOf t ds input i (fieldsTo t ds input i)) (element e)
   unfolding nodeField
   cells-are i e h = node-cell (nodeAt t i) (getD ds i noSource .extents) (operandsOf t ds input i (fieldsTo t ds input i)) (element e) h
@@ -77,7 +77,7 @@ module _ (t : List ℤ) (ds : List Derived) (input : List Cell) where
       ∙ rw append-nil refl
 
   -- as many as the nodes' total
-  pub all-length : (i : ℕ) → i ≤ length ds → length (allCells (fieldsTo t ds input i)) ≡ totalOf (take i ds)
+  all-length : (i : ℕ) → i ≤ length ds → length (allCells (fieldsTo t ds input i)) ≡ totalOf (take i ds)
   unfolding allCells fieldsTo concat
   all-length zero h = total-none ds
   all-length (suc i) h =
@@ -92,7 +92,7 @@ module _ (t : List ℤ) (ds : List Derived) (input : List Cell) where
   all-own i e l = rw (all-next i, ← all-length i (omega arith)) (getD-append-add (allTo i) (cellsAt i) e gap)
 
   -- cell e of node j
-  pub cell-stands : (i j e : ℕ) → i ≤ length ds → j < i → e < countOf (getD ds j noSource)
+  cell-stands : (i j e : ℕ) → i ≤ length ds → j < i → e < countOf (getD ds j noSource)
       → getD (allCells (fieldsTo t ds input i)) (totalOf (take j ds) + e) gap ≡ getD (cellsAt j) e gap
   cell-stands zero j e l h q = absurd (not-suc-le-zero h)
   cell-stands (suc i) j e l h q =

@@ -29,7 +29,7 @@ pub record Spreads (s r : List ℕ) : Type 0 where
   pub rank : length s ≤ length r
   pub axis : (k : ℕ) → k < length s → (extent s k ≡ 1) ⊎ (extent s k ≡ extent r (length r - length s + k))
 
-pub spreads-trans : {s r q : List ℕ} → Spreads s r → Spreads r q → Spreads s q
+spreads-trans : {s r q : List ℕ} → Spreads s r → Spreads r q → Spreads s q
 spreads-trans {s} {r} {q} f g = record { rank = omega (arith, f .rank, g .rank); axis = axis′ }
   where
     axis′ : (k : ℕ) → k < length s → (extent s k ≡ 1) ⊎ (extent s k ≡ extent q (length q - length s + k))
@@ -93,10 +93,10 @@ module _ (s t : List ℕ) (p : Positive s) (q : Positive t) (agree : canBroadcas
       (all-below rank (λ (k : ℕ). equalOrOne (extent (aligned rank s) k) (extent (aligned rank t) k)) agree j h)
       (getD-tab rank (λ (k : ℕ). max (extent (aligned rank s) k) (extent (aligned rank t) k)) j 1 h)
 
-  pub spreads-left : Spreads s (broadcast s t)
+  spreads-left : Spreads s (broadcast s t)
   spreads-left = spread s (broadcast s t) (rw broadcast-length (omega arith)) (rw (broadcast-length s t) (λ j h. axes j h .0))
 
-  pub spreads-right : Spreads t (broadcast s t)
+  spreads-right : Spreads t (broadcast s t)
   spreads-right = spread t (broadcast s t) (rw broadcast-length (omega arith)) (rw (broadcast-length s t) (λ j h. axes j h .1))
 
 -- ---- the operands of a binary operation and of a WHERE

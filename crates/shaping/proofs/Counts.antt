@@ -21,7 +21,7 @@ pub capped-within : {n : ℕ} → n ≤ elementLimit → capped n ≡ n
 unfolding capped
 capped-within {n} h = rw (le-leb n elementLimit h)
 
-pub capped-over : {n : ℕ} → elementLimit < n → capped n ≡ 1048577
+capped-over : {n : ℕ} → elementLimit < n → capped n ≡ 1048577
 unfolding capped
 capped-over {n} h = rw (lt-leb n elementLimit h)
 

@@ -22,7 +22,7 @@ use Rattle.verifier.specs.Meets.{NodeMeets, MeetsAt, NodesMeet, PlanMeet
 -- ---- one node
 
 module _ (t : List ℤ) (n : ℕ) (earlier : List Derived) where
-  pub rules-meet : AllHold (nodeRules t n earlier) → NodeMeets t n earlier (deriveNode t n earlier)
+  rules-meet : AllHold (nodeRules t n earlier) → NodeMeets t n earlier (deriveNode t n earlier)
   unfolding nodeRules deriveNode nodeAt
   rules-meet h =
       record {
@@ -39,11 +39,11 @@ module _ (t : List ℤ) (n : ℕ) (earlier : List Derived) where
         derived = refl;
       }
 
-  pub meets-derived : {d : Derived} → NodeMeets t n earlier d → d ≡ deriveNode t n earlier
+  meets-derived : {d : Derived} → NodeMeets t n earlier d → d ≡ deriveNode t n earlier
   unfolding deriveNode
   meets-derived m = m .derived
 
-  pub meets-rules : NodeMeets t n earlier (deriveNode t n earlier) → AllHold (nodeRules t n earlier)
+  meets-rules : NodeMeets t n earlier (deriveNode t n earlier) → AllHold (nodeRules t n earlier)
   unfolding nodeRules deriveNode nodeAt
   meets-rules m =
       (m .rule2, (m .rule3, (m .rule4, (m .rule5, (m .rule6, (m .rule7, (m .rule8, (m .rule9, (m .rule10, (m .rule11, tt))))))))))
@@ -73,7 +73,7 @@ module _ (t : List ℤ) where
         (λ (q : i < n). within (earlier ++ d ∷ []) n i q (rw front (before .each i q)))
         (eq-or-lt-of-le (le-of-suc-le-suc h))
 
-    pub meet-more : NodesMeet t (suc n) (earlier ++ d ∷ [])
+    meet-more : NodesMeet t (suc n) (earlier ++ d ∷ [])
     meet-more = record { as-many = length-snoc earlier d ∙ ap suc (before .as-many); each = each }
 
   pub checked-meets : (n : ℕ) (ds : List Derived) → checkTo t n ≡ accepted ds → NodesMeet t n ds
@@ -88,7 +88,7 @@ module _ (t : List ℤ) where
       let q : earlier ++ deriveNode t n earlier ∷ [] ≡ ds = accepted-same (this .1) in
       rw (← q) (meet-more n earlier (deriveNode t n earlier) (checked-meets n earlier (step .1)) (rules-meet t n earlier (this .0)))
 
-  pub meets-checked : (n : ℕ) (ds : List Derived) → NodesMeet t n ds → checkTo t n ≡ accepted ds
+  meets-checked : (n : ℕ) (ds : List Derived) → NodesMeet t n ds → checkTo t n ≡ accepted ds
   unfolding inTurn checkNode
   meets-checked zero ds m = ap {B = Outcome (List Derived)} accepted (sym (none ds (m .as-many)))
     where

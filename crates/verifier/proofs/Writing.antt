@@ -72,7 +72,7 @@ module _ (r : Record) where
       ap (λ (ws : List ℤ). pos (r .dtype) ∷ pos (r .device) ∷ r .bounds .low ∷ r .bounds .high ∷ ws)
       (zeros-past (r .extents .n0) (r .extents .n1) (r .extents .n2) (r .extents .n3))
 
-  pub eight-long : length (derivedWords (viewOf r)) ≡ 8
+  eight-long : length (derivedWords (viewOf r)) ≡ 8
   eight-long = rw eight refl
 
   -- four words, and four after them, as the code holds them

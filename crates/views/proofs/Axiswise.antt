@@ -35,7 +35,7 @@ module _ (g : Row) (j : ℕ) (h : j < cellsOf g) where
   pub row-lt : j / g .r3 < rowsOf g
   row-lt = div-lt-iff-lt-mul fourth-pos .1 h
 
-  pub plane-pos : 0 < g .r2 * g .r3
+  plane-pos : 0 < g .r2 * g .r3
   plane-pos = mul-pos (third-pos g (j / g .r3) row-lt) fourth-pos
 
   pub coord-0 : coord (listOf g) j 0 ≡ j / g .r3 / g .r2 / g .r1

@@ -22,28 +22,28 @@ use Rattle.views.specs.Walks.{InFront}
 
 -- ---- d in front of a list: those, and the rest
 
-pub word-front : (d x : ℕ) (s : List ℕ) (y k : ℕ) → k < d → getD (replicate d x ++ s) k y ≡ x
+word-front : (d x : ℕ) (s : List ℕ) (y k : ℕ) → k < d → getD (replicate d x ++ s) k y ≡ x
 word-front d x s y k h =
     List·getD-append (replicate d x) s y k (rw length-replicate h) ∙ getD-replicate d k x y h
 
-pub word-rest : (d x : ℕ) (s : List ℕ) (y k : ℕ) → getD (replicate d x ++ s) (d + k) y ≡ getD s k y
+word-rest : (d x : ℕ) (s : List ℕ) (y k : ℕ) → getD (replicate d x ++ s) (d + k) y ≡ getD s k y
 word-rest d x s y k = rw length-replicate at (getD-append-add (replicate d x) s k y)
 
 -- coordinates where the extents in front are 1
 module _ (s : List ℕ) (e : ℕ) (h : e < count s) where
-  pub coord-zero : (d k : ℕ) → k < d → coord (replicate d 1 ++ s) e k ≡ 0
+  coord-zero : (d k : ℕ) → k < d → coord (replicate d 1 ++ s) e k ≡ 0
   coord-zero zero k q = absurd (not-suc-le-zero q)
   coord-zero (suc d) zero q = coord-front (replicate d 1 ++ s) e (rw (count-front d s) h)
   coord-zero (suc d) (suc k) q =
       coord-rest (replicate d 1 ++ s) e (rw (count-front d s) h) k ∙ coord-zero d k (le-of-suc-le-suc q)
 
-  pub coord-same : (d k : ℕ) → coord (replicate d 1 ++ s) e (d + k) ≡ coord s e k
+  coord-same : (d k : ℕ) → coord (replicate d 1 ++ s) e (d + k) ≡ coord s e k
   coord-same zero k = rw zero-add
   coord-same (suc d) k =
       rw suc-add (coord-rest (replicate d 1 ++ s) e (rw (count-front d s) h) (d + k) ∙ coord-same d k)
 
 -- the element at coordinates that are 0 in front
-pub ravel-rest : (d : ℕ) (s : List ℕ) (c : ℕ → ℕ) → ((k : ℕ) → k < d → c k ≡ 0) → ravel (replicate d 1 ++ s) c ≡ ravel s (λ (k : ℕ). c (d + k))
+ravel-rest : (d : ℕ) (s : List ℕ) (c : ℕ → ℕ) → ((k : ℕ) → k < d → c k ≡ 0) → ravel (replicate d 1 ++ s) c ≡ ravel s (λ (k : ℕ). c (d + k))
 unfolding ravel
 ravel-rest zero s c z = ravel-same s c (λ k. c (0 + k)) (λ k. rw zero-add)
 ravel-rest (suc d) s c z =
@@ -58,7 +58,7 @@ ravel-add (n ∷ ns) c d = rw (add-mul, ravel-add ns (λ k. c (suc k)) (λ k. d 
 
 -- ---- the grid of a shape
 
-pub count-grid : (g : Row) → count (listOf g) ≡ g .r0 * (g .r1 * (g .r2 * g .r3))
+count-grid : (g : Row) → count (listOf g) ≡ g .r0 * (g .r1 * (g .r2 * g .r3))
 unfolding count
 count-grid g = rw mul-one
 
@@ -69,7 +69,7 @@ module _ (s : List ℕ) (g : Row) (front : InFront 1 s g) where
   pub grid-count : count (listOf g) ≡ count s
   grid-count = ap count front ∙ count-front (4 - length s) s
 
-  pub grid-product : g .r0 * (g .r1 * (g .r2 * g .r3)) ≡ count s
+  grid-product : g .r0 * (g .r1 * (g .r2 * g .r3)) ≡ count s
   grid-product = sym (count-grid g) ∙ grid-count
 
   pub grid-cells : cellsOf g ≡ count s

@@ -26,10 +26,10 @@ share false x y = add-zero x
 
 module _ (s : List ℕ) (S F K G row : Row) (base : ℕ) (under : InFront 1 s S) (flags : InFront 0 (take (length s) (listOf row)) F)
     (keeps : InFront 1 (reduced s (listOf row)) K) (gathers : InFront 1 (gatheredExtents s (listOf row)) G) where
-  pub kept-cells : cellsOf K ≡ count (reduced s (listOf row))
+  kept-cells : cellsOf K ≡ count (reduced s (listOf row))
   kept-cells = grid-cells (reduced s (listOf row)) K keeps
 
-  pub gathered-cells : cellsOf G ≡ count (gatheredExtents s (listOf row))
+  gathered-cells : cellsOf G ≡ count (gatheredExtents s (listOf row))
   gathered-cells = grid-cells (gatheredExtents s (listOf row)) G gathers
 
   -- what the two views add along axis k, of coordinates c and d

@@ -46,7 +46,7 @@ flat-walks base n p = record { cells = one-mul n; at = at′; inside = inside′
 -- ---- walks
 
 -- the same elements under another name
-pub walks-same : {g : Row} {v : View} {base n m : ℕ} {f f′ : ℕ → ℕ} → ((j : ℕ) → j < n → f j ≡ f′ j) → Walks g v base n m f → Walks g v base n m f′
+walks-same : {g : Row} {v : View} {base n m : ℕ} {f f′ : ℕ → ℕ} → ((j : ℕ) → j < n → f j ≡ f′ j) → Walks g v base n m f → Walks g v base n m f′
 walks-same {base = base} e w = record { cells = w .cells; at = λ j h. w .at j h ∙ ap (λ (i : ℕ). base + i) (e j h); inside = w .inside }
 
 -- coordinates below the extents of a grid stay within its source

@@ -16,13 +16,13 @@ use Rattle.views.proofs.MergingAxes.{merged-walks}
 use Rattle.walking.specs.declared.Walk.{Walk}
 use Rattle.walking.specs.Alike.{Alike, Still, Reaches}
 
-pub merged-alike : (g : Row) (v : View) → canMerge g v ≡ true → 0 < cellsOf g → Alike g v (mergedGrid g) (mergedView g v)
+merged-alike : (g : Row) (v : View) → canMerge g v ≡ true → 0 < cellsOf g → Alike g v (mergedGrid g) (mergedView g v)
 merged-alike g v can some =
     let own : Walks g v 0 (cellsOf g) (suc (reach g v)) (place g v) = record { cells = refl; at = λ j h. sym (zero-add (place g v j)); inside = omega arith } in
     let w = merged-walks g v can some own in
     record { near = λ j h. w .at j h ∙ zero-add (place g v j); far = omega (arith, w .inside) }
 
-pub merged-cells : (g : Row) → cellsOf (mergedGrid g) ≡ cellsOf g
+merged-cells : (g : Row) → cellsOf (mergedGrid g) ≡ cellsOf g
 merged-cells g = simp (one-mul, mul-assoc)
 
 alike-then : {g h k : Row} {v u t : View} → cellsOf h ≡ cellsOf g → Alike g v h u → Alike h u k t → Alike g v k t

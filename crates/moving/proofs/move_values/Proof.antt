@@ -1,5 +1,5 @@
 use Prim.Native.Nat.{ℕ, _+_, _*_, _-_, _≤_}
-use mathlib.Core.Path.{_≡_, refl, ap, _∙_}
+use mathlib.Core.Path.{_≡_, refl}
 use native.Mathlib.Omega.{arith}
 use lib.ListN.{length, getD}
 use Rattle.laws.specs.Store.{store}
@@ -55,7 +55,7 @@ loop-again c =
     let h = c .before .row-values .ensures in (
       search needs,
       rw next-block (omega (arith, v)),
-      ap length h ∙ length-store _ _ _ _ ∙ v .2,
+      rw (h, length-store) (v .2),
       move-turn (pos 0) _ (p .args .g) (p .args .v) (p .args .start) (q .loop .i) (p .pre .1) (omega (arith, p .pre .0, c .before .before .before .before .loop-test .taken)) (v .3) h (v .1) (c .before .before .before .row-place .ensures .0),
     )
 

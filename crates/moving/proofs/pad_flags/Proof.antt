@@ -1,5 +1,5 @@
 use Prim.Native.Nat.{ℕ, _+_, _*_, _-_, _≤_}
-use mathlib.Core.Path.{_≡_, refl, ap, _∙_}
+use mathlib.Core.Path.{_≡_, refl}
 use native.Mathlib.Omega.{arith}
 use native.Mathlib.Nat.{zero-mul}
 use lib.ListN.{length}
@@ -50,7 +50,7 @@ loop-again c =
     let h = c .before .before .pad-row-flags .ensures in (
       search needs,
       rw next-block (omega (arith, v)),
-      ap length h ∙ length-store _ _ _ _ ∙ v .2,
+      rw (h, length-store) (v .2),
       pad-turn 0 _ (p .args .r) (p .args .o) (p .args .s) (p .args .base) (p .args .start) (q .loop .i) (p .pre .0 .extents .p3) (p .pre .2) (v .3) h (v .1),
     )
 

@@ -1,3 +1,4 @@
+use native.Mathlib.Omega.{arith}
 use borrow.Author.Needs.{needs}
 use Rattle.vectors.proofs.run_parts.Statement.{statement}
 use Rattle.vectors.proofs.run_parts.Tie as tie
@@ -87,13 +88,15 @@ part-wide-end : tie.Need-part-wide-end
 part-wide-end c = search needs
 
 runs-requires : tie.Need-runs-requires
-runs-requires c κs = (search needs, search needs, search needs, search needs, search needs, search needs)
+runs-requires c κs =
+    let start = c .before .before .before .before .before .before .before .before .before .before in
+    (omega arith, omega arith, omega (arith, start .pre .4), omega (arith, start .pre .5), omega arith, omega (arith, start .pre .1))
 
 found-requires : tie.Need-found-requires
-found-requires c κs = search needs
+found-requires c κs = tt
 
 returns : tie.Need-returns
-returns c = search needs
+returns c = tt
 
 pub run-parts-spec : {M : Type 1} → statement M
 run-parts-spec =
