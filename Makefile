@@ -23,18 +23,20 @@ SOURCES = $(shell find crates) crates.txt TOOLCHAIN
 
 all: $(ARCHIVE) $(SHARED) $(LIST) $(LUP)
 
+# What the prover says goes to a file, and to the terminal where something is not proved.
 $(ARCHIVE): $(SOURCES)
-	rt staticlib lupetzarin
-	mkdir -p build
-	cp target/staticlib/liblupetzarin.a $@
+	@mkdir -p build
+	@echo "proving and compiling the library (from nothing some six minutes; build/library.log)"
+	@rt staticlib lupetzarin >build/library.log 2>&1 || { tail -n 40 build/library.log; exit 1; }
+	@cp target/staticlib/liblupetzarin.a $@
 
 $(SHARED): $(ARCHIVE)
 	$(CC) -shared -o $@ -Wl,--whole-archive $(ARCHIVE) -Wl,--no-whole-archive
 
 $(LIST): $(SOURCES)
-	rt check list
-	mkdir -p build
-	cp target/bin/list $@
+	@mkdir -p build
+	@rt check list >build/list.log 2>&1 || { tail -n 40 build/list.log; exit 1; }
+	@cp target/bin/list $@
 
 $(LUP): $(HOST_SOURCES) $(HOST_HEADERS) $(ARCHIVE)
 	$(CC) $(HOST_FLAGS) -O2 -o $@ $(HOST_SOURCES) $(ARCHIVE)
