@@ -1,3 +1,4 @@
-pub mod Choosing
-pub mod Lesser
+pub mod Arms
+pub mod Clearing
+pub mod PowerRows
 pub mod Rows

@@ -1,35 +1,27 @@
--- Cells of three views read while a buffer is written behind them, and their rows one after another.
-use Prim.Native.Nat.{ℕ, _+_, _*_, _≤_, _<_}
-use mathlib.Core.Path.{_≡_, refl, ap, _∙_}
-use mathlib.Core.Bool.{Bool, true, false, cond}
+-- The rows of three views: numbers read while a buffer is written behind them, gaps cleared, a row in parts.
+use Prim.Native.Nat.{ℕ, _+_, _*_, _-_, _≤_, _<_}
+use mathlib.Core.Path.{_≡_, refl}
 use mathlib.Core.List.{List}
-use lib.Dec.{eqb}
+use native.Mathlib.Nat.{add-zero, add-mul, mul-zero, mul-le-mul-right}
+use native.Mathlib.Omega.{arith}
 use lib.IntN.{ℤ, pos}
 use lib.ListN.{length, getD}
 use borrow.Author.Tests.{ne-eqb}
 use mir.Syntax.{w64}
 use mir.Val.{SFits}
-use Rattle.laws.specs.Integers.{sameZ}
 use Rattle.laws.specs.Store.{store}
 use Rattle.laws.proofs.Machine.{Small, R, R-is}
-use Rattle.laws.proofs.Store.{store-block, store-read, store-same, store-again, store-hit}
+use Rattle.laws.proofs.Store.{store-read, store-hit, store-again, store-after-store}
 use Rattle.plan.specs.declared.Row.{Row}
+use Rattle.views.specs.declared.Stride.{Stride}
 use Rattle.views.specs.declared.View.{View}
-use Rattle.views.specs.Views.{step, rowsOf, rowPlace, place, reach}
-use Rattle.views.proofs.RowPlaces.{place-row, cell-below}
-use Rattle.elementwise.specs.Mixing.{mixFlag, sideOf, sideFlag, chosenFlag, three, SmallAlong}
+use Rattle.views.specs.Views.{strideOf, step, span, rowsOf, rowPlace, reach}
 use Rattle.views.specs.Numbers.{SmallBefore}
-
--- m has what l has before place s
-pub record Kept {A : Type 0} (d : A) (l m : List A) (s : ℕ) : Type 0 where
-  pub at : (k : ℕ) → k < s → getD m k d ≡ getD l k d
-
-module _ {A : Type 0} (d : A) where
-  pub kept : (l m : List A) (s n : ℕ) (f : ℕ → A) → m ≡ store l s n f → Kept d l m s
-  kept l m s n f e = record { at = λ k h. store-read l m s n f k d e h }
-
-  pub kept-all : (l : List A) (s : ℕ) → Kept d l l s
-  kept-all l s = record { at = λ k h. refl }
+use Rattle.views.proofs.RowPlaces.{cell-below}
+use Rattle.views.proofs.Steps.{step-le}
+use Rattle.validity.specs.Flags.{mixFlag, three}
+use Rattle.validity.proofs.Rows.{Kept, three-kept, unit-step}
+use Rattle.elementwise.specs.Mixing.{plainValue, clearedValue, mixValue, plainAt, SmallAlong}
 
 module _ {vs ws : List ℤ} {s : ℕ} (v : Kept (pos 0) vs ws s) where
   -- a number read at k, where the one at p was
@@ -42,60 +34,61 @@ module _ {vs ws : List ℤ} {s : ℕ} (v : Kept (pos 0) vs ws s) where
       let h = cell-below g a near i j few w in
       rw (e, v .at _ h) (t _ h)
 
-  module _ {fs gs : List ℕ} (f : Kept 0 fs gs s) {C : Type 0} (F : ℤ → ℕ → ℤ → ℕ → ℤ → ℕ → C) where
-    -- three cells
-    pub three-kept : (p q u : ℕ) → p < s → q < s → u < s → three F ws gs p q u ≡ three F vs fs p q u
-    three-kept p q u hp hq hu = rw (v .at p hp, f .at p hp, v .at q hq, f .at q hq, v .at u hu, f .at u hu)
+  -- three numbers, read at places computed another way
+  pub plain-read : (op : ℕ) {k l m p q u : ℕ} {x y z : ℤ} → k ≡ p → l ≡ q → m ≡ u → k < s → l < s → m < s
+      → x ≡ getD ws k (pos 0) → y ≡ getD ws l (pos 0) → z ≡ getD ws m (pos 0) → plainValue op x y z ≡ plainAt op vs p q u
+  plain-read op {k} {l} {m} ep eq eu hk hl hm ex ey ez = rw (ex, ey, ez, v .at k hk, v .at l hl, v .at m hm, ep, eq, eu) refl
 
-    -- the same, read at places computed another way
-    pub three-read : {k l m p q u : ℕ} {x y z : ℤ} → k ≡ p → l ≡ q → m ≡ u → k < s → l < s → m < s
-        → x ≡ getD ws k (pos 0) → y ≡ getD ws l (pos 0) → z ≡ getD ws m (pos 0) → F x (getD gs k 0) y (getD gs l 0) z (getD gs m 0) ≡ three F vs fs p q u
-    three-read {k} {l} {m} ep eq eu hk hl hm ex ey ez = rw (ex, ey, ez, ← ep, ← eq, ← eu) (three-kept k l m hk hl hm)
+-- ---- the numbers of a row, then 0 in its gaps: vs₁ are the numbers whatever the flags, gs the flags of the result
 
-    -- after i rows, row i at `to`, whose cells are those from p, q and u on
-    pub mix-turn : (g : Row) (a b d : View) (l m end : List C) (i : ℕ) {p q u to : ℕ} → reach g a < s → reach g b < s → reach g d < s → i < rowsOf g
-        → m ≡ store l s (i * g .r3) (λ (j : ℕ). three F vs fs (place g a j) (place g b j) (place g d j))
-        → end ≡ store m to (g .r3) (λ (c : ℕ). three F ws gs (p + step (g .r3) (a .s3) c) (q + step (g .r3) (b .s3) c) (u + step (g .r3) (d .s3) c))
-        → to ≡ s + i * g .r3 → p ≡ rowPlace g a i → q ≡ rowPlace g b i → u ≡ rowPlace g d i
-        → end ≡ store l s ((i + 1) * g .r3) (λ (j : ℕ). three F vs fs (place g a j) (place g b j) (place g d j))
-    mix-turn g a b d l m end i {p} {q} {u} {to} na nb nd few e h at ep eq eu =
-        store-block l m end s i (g .r3) _ _ e (rw at at h)
-        (λ c w.
-        rw (ep, eq, eu, place-row g a i c w, place-row g b i c w, place-row g d i c w)
-        (three-kept _ _ _ (cell-below g a na i c few w) (cell-below g b nb i c few w) (cell-below g d nd i c few w)))
+module _ (op : ℕ) (vs vs₁ vs₂ : List ℤ) (fs gs : List ℕ) (s n : ℕ) (p q u : ℕ → ℕ) (near : (j : ℕ) → j < n → p j < s) (room : s + n ≤ length vs) (room-flags : s + n ≤ length fs)
+    (e : vs₁ ≡ store vs s n (λ (j : ℕ). plainAt op vs (p j) (q j) (u j))) (eg : gs ≡ store fs s n (λ (j : ℕ). three (mixFlag op) vs fs (p j) (q j) (u j))) where
+  pub where-cleared : op ≡ 18 → vs₂ ≡ store vs₁ s n (λ (j : ℕ). clearedValue (getD gs (p j) 0) (getD vs₁ (s + j) (pos 0)))
+      → vs₂ ≡ store vs s n (λ (j : ℕ). three (mixValue op) vs fs (p j) (q j) (u j))
+  unfolding mixValue
+  where-cleared is h = store-again vs vs₁ vs₂ s n _ _ _ e h (λ k w. rw (store-hit vs vs₁ s n _ k (pos 0) e w room, store-read fs gs s n _ (p k) 0 eg (near k w), is) refl)
 
--- the flags of all binary operations are alike
-pub flags-alike : (op k : ℕ) → (op ≡ 18 → ⊥) → (k ≡ 18 → ⊥) → (vs : List ℤ) (fs l m : List ℕ) (s n : ℕ) (p q u : ℕ → ℕ)
-    → m ≡ store l s n (λ (j : ℕ). three (mixFlag k) vs fs (p j) (q j) (u j)) → m ≡ store l s n (λ (j : ℕ). three (mixFlag op) vs fs (p j) (q j) (u j))
-unfolding mixFlag
-flags-alike op k other-op other-k vs fs l m s n p q u e = e ∙ store-same l s n _ _ (λ j w. rw (ne-eqb op 18 other-op, ne-eqb k 18 other-k) refl)
+  pub both-cleared : (op ≡ 18 → ⊥) → vs₂ ≡ store vs₁ s n (λ (j : ℕ). clearedValue (getD gs (s + step n (strideOf 1 0) j) 0) (getD vs₁ (s + j) (pos 0)))
+      → vs₂ ≡ store vs s n (λ (j : ℕ). three (mixValue op) vs fs (p j) (q j) (u j))
+  unfolding mixValue
+  both-cleared not h =
+      store-again vs vs₁ vs₂ s n _ _ _ e h (λ k w. rw (unit-step n k, store-hit vs vs₁ s n _ k (pos 0) e w room, store-hit fs gs s n _ k 0 eg w room-flags, ne-eqb op 18 not) refl)
 
--- ---- WHERE: the sides first, then the flags in their places
+-- ---- a part of a row, from cell i on, where the stride does not go down
 
--- a side, of a number read at k, where the one at p is
-pub side-read : (vs : List ℤ) {k p : ℕ} {x : ℤ} → x ≡ getD vs k (pos 0) → k ≡ p → sideOf x ≡ sideOf (getD vs p (pos 0))
-side-read vs ex ep = rw (ex, ep)
+module _ (s : Stride) (flat : s .down ≡ 0) (n m i : ℕ) (fits : i + m ≤ n) where
+  pub part-place : (p c : ℕ) → p + i * s .up + step m s c ≡ p + step n s (i + c)
+  unfolding step
+  part-place p c = rw (flat, mul-zero, mul-zero, add-mul) (omega arith)
 
--- a side not yet passed, and flags read at places computed another way
-pub chosen-read : {fs gs : List ℕ} {s : ℕ} → Kept 0 fs gs s → (t : ℕ) {k l m p q u : ℕ} → getD gs t 0 ≡ getD fs t 0 → k ≡ p → l ≡ q → m ≡ u → k < s → l < s → m < s
-    → chosenFlag gs t k l m ≡ chosenFlag fs t p q u
-chosen-read v t {k} {l} {m} here ep eq eu hk hl hm = rw (here, v .at k hk, v .at l hl, v .at m hm, ep, eq, eu)
+  pub part-start : 0 < m → i * s .up ≤ span n s
+  unfolding span
+  part-start few = rw (flat, add-zero) (mul-le-mul-right (s .up) (omega arith))
 
-side-chosen : (x y z : ℤ) (f g h : ℕ) → sideFlag (sideOf x) f g h ≡ mixFlag 18 x f y g z h
-unfolding mixFlag
-side-chosen x y z f g h = ap (λ (r : ℕ). cond (eqb f 1) r 0) (by-side (sameZ x (pos 0)))
-  where
-    by-side : (b : Bool) → cond (eqb (cond b 0 1) 0) h g ≡ cond b h g
-    by-side true = refl
-    by-side false = refl
+  pub part-below : (p to : ℕ) → 0 < m → p + span n s < to → p + i * s .up + span m s < to + i
+  unfolding span
+  part-below p to few h =
+      let e : (n - 1) * (s .up + s .down) ≡ (n - 1) * s .up = rw (flat, add-zero) in
+      let e′ : (m - 1) * (s .up + s .down) ≡ (m - 1) * s .up = rw (flat, add-zero) in
+      let t : (i + (m - 1)) * s .up ≤ (n - 1) * s .up = mul-le-mul-right (s .up) (omega arith) in
+      omega (arith, e, e′, t, add-mul i (m - 1) (s .up))
 
--- the sides, and the flags over them
-pub where-done : (vs : List ℤ) (fs gs end : List ℕ) (s n : ℕ) (p q u : ℕ → ℕ) → s + n ≤ length fs → ((j : ℕ) → j < n → (p j < s) × (q j < s) × (u j < s))
-    → gs ≡ store fs s n (λ (j : ℕ). sideOf (getD vs (p j) (pos 0))) → end ≡ store gs s n (λ (j : ℕ). chosenFlag gs (s + j) (p j) (q j) (u j))
-    → end ≡ store fs s n (λ (j : ℕ). three (mixFlag 18) vs fs (p j) (q j) (u j))
-where-done vs fs gs end s n p q u room near e h =
-    let v = kept 0 fs gs s n _ e in
-    store-again fs gs end s n _ _ _ e h
-    (λ k w.
-    rw (store-hit fs gs s n _ k 0 e w room, v .at (p k) (near k w .0), v .at (q k) (near k w .1), v .at (u k) (near k w .2))
-    (side-chosen (getD vs (p k) (pos 0)) (getD vs (q k) (pos 0)) (getD vs (u k) (pos 0)) (getD fs (p k) 0) (getD fs (q k) 0) (getD fs (u k) 0)))
+  pub small-part : {vs ws : List ℤ} {to : ℕ} (p : ℕ) → Kept (pos 0) vs ws to → p + span n s < to → SmallAlong vs n p s → SmallAlong ws m (p + i * s .up) s
+  small-part {to = to} p v h t c w =
+      let l : p + step n s (i + c) < to = omega (arith, step-le n s (i + c) (omega arith)) in
+      rw (part-place p c, v .at _ l) (t (i + c) (omega arith))
+
+module _ {vs ws : List ℤ} {fs gs : List ℕ} {to : ℕ} (v : Kept (pos 0) vs ws to) (f : Kept 0 fs gs to) {C : Type 0} (F : ℤ → ℕ → ℤ → ℕ → ℤ → ℕ → C) where
+  -- after i cells the next m
+  pub part-turn : (a b d : Stride) → a .down ≡ 0 → b .down ≡ 0 → d .down ≡ 0 → (n m i p q u : ℕ) → i + m ≤ n → p + span n a < to → q + span n b < to → u + span n d < to → (l l′ end : List C)
+      → l′ ≡ store l to i (λ (j : ℕ). three F vs fs (p + step n a j) (q + step n b j) (u + step n d j))
+      → end ≡ store l′ (to + i) m (λ (c : ℕ). three F ws gs (p + i * a .up + step m a c) (q + i * b .up + step m b c) (u + i * d .up + step m d c))
+      → end ≡ store l to (i + m) (λ (j : ℕ). three F vs fs (p + step n a j) (q + step n b j) (u + step n d j))
+  part-turn a b d ea eb ed n m i p q u fits ha hb hd l l′ end e h =
+      store-after-store l l′ end to i m _ _ e h
+      (λ c w.
+      rw (part-place a ea n m i fits p c, part-place b eb n m i fits q c, part-place d ed n m i fits u c)
+      (three-kept v f F _ _ _ (below a p ha c w) (below b q hb c w) (below d u hd c w)))
+    where
+      below : (s : Stride) (k : ℕ) → k + span n s < to → (c : ℕ) → c < m → k + step n s (i + c) < to
+      below s k near c w = omega (arith, step-le n s (i + c) (omega arith))

@@ -1,123 +1,38 @@
-// Binary operations and WHERE: each element of a result from two or three views. Each buffer has its own loop.
+// Binary operations and WHERE: each element of a result from two or three views, a row at a time: its flags, its numbers whatever the flags are, then 0
+// in the gaps.
 ghost use mathlib.Core.Path.{_≡_};
-ghost use mathlib.Core.Bool.{true, cond};
-ghost use Prim.Native.Nat.{ℕ, _+_, _*_, _≤_, _<_};
-ghost use lib.IntN.{ℤ, pos, _+ℤ_, _*ℤ_};
-ghost use lib.Signed.{ltZ};
+ghost use mathlib.Core.Bool.{true};
+ghost use Prim.Native.Nat.{ℕ, _+_, _*_, _^_, _≤_, _<_};
+ghost use lib.IntN.{pos};
 ghost use lib.ListN.{length, getD};
-ghost use Rattle.laws.specs.Integers.{sameZ};
 ghost use Rattle.laws.specs.Store.{store};
 ghost use Rattle.laws.proofs.Machine.{Small};
-ghost use Rattle.cells.specs.Cells.{binary};
 ghost use Rattle.views.specs.Views.{strideOf, step, span, rowsOf, reach};
-ghost use Rattle.elementwise.specs.Mixing.{mixValue, mixFlag, sideOf, sideFlag, chosenFlag, three, mixedValues, mixedFlags, SmallAlong};
 ghost use Rattle.views.specs.Numbers.{SmallBefore};
+ghost use Rattle.cells.specs.Cells.{binary};
+ghost use Rattle.validity.specs.Flags.{mixFlag, three, mixedFlags};
+ghost use Rattle.elementwise.specs.Mixing.{plainValue, clearedValue, mixValue, plainAt, mixedValues, SmallAlong};
 use plan::Row;
 use views::Stride;
 use views::View;
 
-// 1 where x is less than y, else 0: the highest bit of their difference, which the machine finds for several cells at once, as it does not for a
-// comparison of 64 bits.
-fn less(x: i64, y: i64) -> i64
-    requires { ⌜ (Small x) × (Small y) ⌝ }
-    ensures { λ r. ⌜ r ≡ cond (ltZ x y) (pos 1) (pos 0) ⌝ }
-{
-    let a = (x + 2147483648) as u64;
-    let b = (y + 2147483648) as u64;
-    (std::num::wrapping_sub_u64(a, b) >> 63) as i64
-}
-
-// 1 where x is not y, else 0.
-fn differ(x: i64, y: i64) -> i64
-    ensures { λ r. ⌜ r ≡ cond (sameZ x y) (pos 0) (pos 1) ⌝ }
-{
-    if x == y { 0 } else { 1 }
-}
-
-// The sum of two numbers of 32 bits.
-fn plus(x: i64, y: i64) -> i64
-    requires { ⌜ (Small x) × (Small y) ⌝ }
-    ensures { λ r. ⌜ r ≡ x +ℤ y ⌝ }
-{
-    x + y
-}
-
-// Their product.
-fn times(x: i64, y: i64) -> i64
-    requires { ⌜ (Small x) × (Small y) ⌝ }
-    ensures { λ r. ⌜ r ≡ x *ℤ y ⌝ }
-{
-    x * y
-}
-
-// A binary operation on two numbers.
-fn apply(op: usize, x: i64, y: i64) -> i64
-    requires { ⌜ (9 ≤ op) × (op < 18) × (Small x) × (Small y) ⌝ }
-    ensures { λ r. ⌜ r ≡ binary op x y ⌝ }
-{
-    match op {
-        9 => plus(x, y),
-        10 => times(x, y),
-        11 => bounds::greatest(x, y),
-        12 => bounds::quotient(x, y),
-        13 => bounds::floor_mod(x, y),
-        14 => less(x, y),
-        15 => differ(x, y),
-        16 => bounds::least(x, y),
-        _ => bounds::greatest(x, y),
-    }
-}
-
-// The number of a result cell. Both numbers are at hand before the flags are asked: no branch is left of it.
-fn mix_value(op: usize, x: i64, f: u8, y: i64, g: u8, z: i64) -> i64
+// The number of a result cell, whatever the flags are.
+fn plain_value(op: usize, x: i64, y: i64, z: i64) -> i64
     requires { ⌜ (9 ≤ op) × (op < 19) × (Small x) × (Small y) ⌝ }
-    ensures { λ r. ⌜ ((h : ℕ) → r ≡ mixValue op x f y g z h) ⌝ }
+    ensures { λ r. ⌜ r ≡ plainValue op x y z ⌝ }
 {
     if op == 18 {
-        if f != 1 {
-            return 0;
-        }
         if x == 0 {
             return z;
         }
         return y;
     }
-    let r = apply(op, x, y);
-    if f != 1 {
-        return 0;
-    }
-    if g != 1 {
-        return 0;
-    }
-    r
-}
-
-// Its flag.
-fn mix_flag(op: usize, x: i64, f: u8, g: u8, h: u8) -> u8
-    ensures { λ r. ⌜ ((y z : ℤ) → r ≡ mixFlag op x f y g z h) ⌝ }
-{
-    if op == 18 {
-        if f != 1 {
-            return 0;
-        }
-        if x == 0 {
-            return h;
-        }
-        return g;
-    }
-    if f != 1 {
-        return 0;
-    }
-    if g != 1 {
-        return 0;
-    }
-    1
+    arithmetic::apply(op, x, y)
 }
 
 // The numbers of a row. It is called with an operation and strides written out, so that each is a loop of its own.
 fn row_values(
     values: &mut [i64],
-    flags: &[u8],
     op: usize,
     n: usize,
     p: usize,
@@ -128,8 +43,8 @@ fn row_values(
     d: Stride,
     to: usize,
 )
-    requires { ⌜ (9 ≤ op) × (op < 19) × (p + span n a < to) × (q + span n b < to) × (u + span n d < to) × (to + n ≤ length (now values)) × (to + n ≤ length (now flags)) × SmallAlong (now values) n p a × SmallAlong (now values) n q b ⌝ }
-    ensures { λ _. ⌜ now (values .exit) ≡ store (now (values .entry)) to n (λ (j : ℕ). three (mixValue op) (now (values .entry)) (now (flags .entry)) (p + step n a j) (q + step n b j) (u + step n d j)) ⌝ }
+    requires { ⌜ (9 ≤ op) × (op < 19) × (p + span n a < to) × (q + span n b < to) × (u + span n d < to) × (to + n ≤ length (now values)) × SmallAlong (now values) n p a × SmallAlong (now values) n q b ⌝ }
+    ensures { λ _. ⌜ now (values .exit) ≡ store (now (values .entry)) to n (λ (j : ℕ). plainAt op (now (values .entry)) (p + step n a j) (q + step n b j) (u + step n d j)) ⌝ }
 {
     let mut i = 0;
     while i < n {
@@ -139,139 +54,105 @@ fn row_values(
         let x = values[k];
         let y = values[l];
         let z = values[m];
-        values[to + i] = mix_value(op, x, flags[k], y, flags[l], z);
-        i += 1;
-    }
-}
-
-// The flags of a row.
-fn row_flags(
-    values: &[i64],
-    flags: &mut [u8],
-    op: usize,
-    n: usize,
-    p: usize,
-    a: Stride,
-    q: usize,
-    b: Stride,
-    u: usize,
-    d: Stride,
-    to: usize,
-)
-    requires { ⌜ (9 ≤ op) × (op < 19) × (p + span n a < to) × (q + span n b < to) × (u + span n d < to) × (to + n ≤ length (now values)) × (to + n ≤ length (now flags)) ⌝ }
-    ensures { λ _. ⌜ now (flags .exit) ≡ store (now (flags .entry)) to n (λ (j : ℕ). three (mixFlag op) (now (values .entry)) (now (flags .entry)) (p + step n a j) (q + step n b j) (u + step n d j)) ⌝ }
-{
-    let mut i = 0;
-    while i < n {
-        let k = p + views::step_at(n, a, i);
-        let l = q + views::step_at(n, b, i);
-        let m = u + views::step_at(n, d, i);
-        let x = values[k];
-        flags[to + i] = mix_flag(op, x, flags[k], flags[l], flags[m]);
+        values[to + i] = plain_value(op, x, y, z);
         i += 1;
     }
 }
 
 // The numbers of a row where each view goes from place to place.
-fn unit_values(
-    values: &mut [i64],
-    flags: &[u8],
-    op: usize,
-    n: usize,
-    p: usize,
-    q: usize,
-    u: usize,
-    to: usize,
-)
-    requires { ⌜ (9 ≤ op) × (op < 19) × (p + span n (strideOf 1 0) < to) × (q + span n (strideOf 1 0) < to) × (u + span n (strideOf 1 0) < to) × (to + n ≤ length (now values)) × (to + n ≤ length (now flags)) × SmallAlong (now values) n p (strideOf 1 0) × SmallAlong (now values) n q (strideOf 1 0) ⌝ }
-    ensures { λ _. ⌜ now (values .exit) ≡ store (now (values .entry)) to n (λ (j : ℕ). three (mixValue op) (now (values .entry)) (now (flags .entry)) (p + step n (strideOf 1 0) j) (q + step n (strideOf 1 0) j) (u + step n (strideOf 1 0) j)) ⌝ }
+fn unit_values(values: &mut [i64], op: usize, n: usize, p: usize, q: usize, u: usize, to: usize)
+    requires { ⌜ (9 ≤ op) × (op < 19) × (p + span n (strideOf 1 0) < to) × (q + span n (strideOf 1 0) < to) × (u + span n (strideOf 1 0) < to) × (to + n ≤ length (now values)) × SmallAlong (now values) n p (strideOf 1 0) × SmallAlong (now values) n q (strideOf 1 0) ⌝ }
+    ensures { λ _. ⌜ now (values .exit) ≡ store (now (values .entry)) to n (λ (j : ℕ). plainAt op (now (values .entry)) (p + step n (strideOf 1 0) j) (q + step n (strideOf 1 0) j) (u + step n (strideOf 1 0) j)) ⌝ }
 {
     let one = Stride { up: 1, down: 0 };
     match op {
-        9 => row_values(values, flags, 9, n, p, one, q, one, u, one, to),
-        10 => row_values(values, flags, 10, n, p, one, q, one, u, one, to),
-        11 => row_values(values, flags, 11, n, p, one, q, one, u, one, to),
-        12 => row_values(values, flags, 12, n, p, one, q, one, u, one, to),
-        13 => row_values(values, flags, 13, n, p, one, q, one, u, one, to),
-        14 => row_values(values, flags, 14, n, p, one, q, one, u, one, to),
-        15 => row_values(values, flags, 15, n, p, one, q, one, u, one, to),
-        16 => row_values(values, flags, 16, n, p, one, q, one, u, one, to),
-        17 => row_values(values, flags, 17, n, p, one, q, one, u, one, to),
-        _ => row_values(values, flags, 18, n, p, one, q, one, u, one, to),
+        9 => row_values(values, 9, n, p, one, q, one, u, one, to),
+        10 => row_values(values, 10, n, p, one, q, one, u, one, to),
+        11 => row_values(values, 11, n, p, one, q, one, u, one, to),
+        12 => row_values(values, 12, n, p, one, q, one, u, one, to),
+        13 => row_values(values, 13, n, p, one, q, one, u, one, to),
+        14 => row_values(values, 14, n, p, one, q, one, u, one, to),
+        15 => row_values(values, 15, n, p, one, q, one, u, one, to),
+        16 => row_values(values, 16, n, p, one, q, one, u, one, to),
+        17 => row_values(values, 17, n, p, one, q, one, u, one, to),
+        _ => row_values(values, 18, n, p, one, q, one, u, one, to),
     }
 }
 
 // The numbers of a row where only the first view goes on, and the others stay.
-fn left_values(
-    values: &mut [i64],
-    flags: &[u8],
-    op: usize,
-    n: usize,
-    p: usize,
-    q: usize,
-    u: usize,
-    to: usize,
-)
-    requires { ⌜ (9 ≤ op) × (op < 19) × (p + span n (strideOf 1 0) < to) × (q + span n (strideOf 0 0) < to) × (u + span n (strideOf 0 0) < to) × (to + n ≤ length (now values)) × (to + n ≤ length (now flags)) × SmallAlong (now values) n p (strideOf 1 0) × SmallAlong (now values) n q (strideOf 0 0) ⌝ }
-    ensures { λ _. ⌜ now (values .exit) ≡ store (now (values .entry)) to n (λ (j : ℕ). three (mixValue op) (now (values .entry)) (now (flags .entry)) (p + step n (strideOf 1 0) j) (q + step n (strideOf 0 0) j) (u + step n (strideOf 0 0) j)) ⌝ }
+fn left_values(values: &mut [i64], op: usize, n: usize, p: usize, q: usize, u: usize, to: usize)
+    requires { ⌜ (9 ≤ op) × (op < 19) × (p + span n (strideOf 1 0) < to) × (q + span n (strideOf 0 0) < to) × (u + span n (strideOf 0 0) < to) × (to + n ≤ length (now values)) × SmallAlong (now values) n p (strideOf 1 0) × SmallAlong (now values) n q (strideOf 0 0) ⌝ }
+    ensures { λ _. ⌜ now (values .exit) ≡ store (now (values .entry)) to n (λ (j : ℕ). plainAt op (now (values .entry)) (p + step n (strideOf 1 0) j) (q + step n (strideOf 0 0) j) (u + step n (strideOf 0 0) j)) ⌝ }
 {
     let one = Stride { up: 1, down: 0 };
     let none = Stride { up: 0, down: 0 };
     match op {
-        9 => row_values(values, flags, 9, n, p, one, q, none, u, none, to),
-        10 => row_values(values, flags, 10, n, p, one, q, none, u, none, to),
-        11 => row_values(values, flags, 11, n, p, one, q, none, u, none, to),
-        12 => row_values(values, flags, 12, n, p, one, q, none, u, none, to),
-        13 => row_values(values, flags, 13, n, p, one, q, none, u, none, to),
-        14 => row_values(values, flags, 14, n, p, one, q, none, u, none, to),
-        15 => row_values(values, flags, 15, n, p, one, q, none, u, none, to),
-        16 => row_values(values, flags, 16, n, p, one, q, none, u, none, to),
-        17 => row_values(values, flags, 17, n, p, one, q, none, u, none, to),
-        _ => row_values(values, flags, 18, n, p, one, q, none, u, none, to),
+        9 => row_values(values, 9, n, p, one, q, none, u, none, to),
+        10 => row_values(values, 10, n, p, one, q, none, u, none, to),
+        11 => row_values(values, 11, n, p, one, q, none, u, none, to),
+        12 => row_values(values, 12, n, p, one, q, none, u, none, to),
+        13 => row_values(values, 13, n, p, one, q, none, u, none, to),
+        14 => row_values(values, 14, n, p, one, q, none, u, none, to),
+        15 => row_values(values, 15, n, p, one, q, none, u, none, to),
+        16 => row_values(values, 16, n, p, one, q, none, u, none, to),
+        17 => row_values(values, 17, n, p, one, q, none, u, none, to),
+        _ => row_values(values, 18, n, p, one, q, none, u, none, to),
     }
 }
 
 // The numbers of a row where only the first view stays.
-fn right_values(
-    values: &mut [i64],
-    flags: &[u8],
-    op: usize,
-    n: usize,
-    p: usize,
-    q: usize,
-    u: usize,
-    to: usize,
-)
-    requires { ⌜ (9 ≤ op) × (op < 19) × (p + span n (strideOf 0 0) < to) × (q + span n (strideOf 1 0) < to) × (u + span n (strideOf 1 0) < to) × (to + n ≤ length (now values)) × (to + n ≤ length (now flags)) × SmallAlong (now values) n p (strideOf 0 0) × SmallAlong (now values) n q (strideOf 1 0) ⌝ }
-    ensures { λ _. ⌜ now (values .exit) ≡ store (now (values .entry)) to n (λ (j : ℕ). three (mixValue op) (now (values .entry)) (now (flags .entry)) (p + step n (strideOf 0 0) j) (q + step n (strideOf 1 0) j) (u + step n (strideOf 1 0) j)) ⌝ }
+fn right_values(values: &mut [i64], op: usize, n: usize, p: usize, q: usize, u: usize, to: usize)
+    requires { ⌜ (9 ≤ op) × (op < 19) × (p + span n (strideOf 0 0) < to) × (q + span n (strideOf 1 0) < to) × (u + span n (strideOf 1 0) < to) × (to + n ≤ length (now values)) × SmallAlong (now values) n p (strideOf 0 0) × SmallAlong (now values) n q (strideOf 1 0) ⌝ }
+    ensures { λ _. ⌜ now (values .exit) ≡ store (now (values .entry)) to n (λ (j : ℕ). plainAt op (now (values .entry)) (p + step n (strideOf 0 0) j) (q + step n (strideOf 1 0) j) (u + step n (strideOf 1 0) j)) ⌝ }
 {
     let one = Stride { up: 1, down: 0 };
     let none = Stride { up: 0, down: 0 };
     match op {
-        9 => row_values(values, flags, 9, n, p, none, q, one, u, one, to),
-        10 => row_values(values, flags, 10, n, p, none, q, one, u, one, to),
-        11 => row_values(values, flags, 11, n, p, none, q, one, u, one, to),
-        12 => row_values(values, flags, 12, n, p, none, q, one, u, one, to),
-        13 => row_values(values, flags, 13, n, p, none, q, one, u, one, to),
-        14 => row_values(values, flags, 14, n, p, none, q, one, u, one, to),
-        15 => row_values(values, flags, 15, n, p, none, q, one, u, one, to),
-        16 => row_values(values, flags, 16, n, p, none, q, one, u, one, to),
-        17 => row_values(values, flags, 17, n, p, none, q, one, u, one, to),
-        _ => row_values(values, flags, 18, n, p, none, q, one, u, one, to),
+        9 => row_values(values, 9, n, p, none, q, one, u, one, to),
+        10 => row_values(values, 10, n, p, none, q, one, u, one, to),
+        11 => row_values(values, 11, n, p, none, q, one, u, one, to),
+        12 => row_values(values, 12, n, p, none, q, one, u, one, to),
+        13 => row_values(values, 13, n, p, none, q, one, u, one, to),
+        14 => row_values(values, 14, n, p, none, q, one, u, one, to),
+        15 => row_values(values, 15, n, p, none, q, one, u, one, to),
+        16 => row_values(values, 16, n, p, none, q, one, u, one, to),
+        17 => row_values(values, 17, n, p, none, q, one, u, one, to),
+        _ => row_values(values, 18, n, p, none, q, one, u, one, to),
     }
 }
 
-// The first view steps by x and the other two by y.
-fn same_strides(a: Stride, b: Stride, d: Stride, x: usize, y: usize) -> bool
-    ensures { λ r. ⌜ (r ≡ true → (a ≡ strideOf x 0) × (b ≡ strideOf y 0) × (d ≡ strideOf y 0)) ⌝ }
+// The numbers of a row divided by 2^k.
+fn power_values(values: &mut [i64], op: usize, n: usize, p: usize, k: u32, to: usize)
+    requires { ⌜ (12 ≤ op) × (op < 14) × (k < 32) × (p + span n (strideOf 1 0) < to) × (to + n ≤ length (now values)) × SmallAlong (now values) n p (strideOf 1 0) ⌝ }
+    ensures { λ _. ⌜ now (values .exit) ≡ store (now (values .entry)) to n (λ (j : ℕ). binary op (getD (now (values .entry)) (p + step n (strideOf 1 0) j) (pos 0)) (pos (2 ^ k))) ⌝ }
 {
-    views::is_stride(a, x, 0) & (views::is_stride(b, y, 0) & views::is_stride(d, y, 0))
+    let mut i = 0;
+    while i < n {
+        let x = values[p + i];
+        values[to + i] = arithmetic::by_power(op, x, k);
+        i += 1;
+    }
+}
+
+// Those of left_values; divided by a power of two they are shifted.
+fn left_row(values: &mut [i64], op: usize, n: usize, p: usize, q: usize, u: usize, to: usize)
+    requires { ⌜ (9 ≤ op) × (op < 19) × (p + span n (strideOf 1 0) < to) × (q + span n (strideOf 0 0) < to) × (u + span n (strideOf 0 0) < to) × (to + n ≤ length (now values)) × SmallAlong (now values) n p (strideOf 1 0) × SmallAlong (now values) n q (strideOf 0 0) ⌝ }
+    ensures { λ _. ⌜ now (values .exit) ≡ store (now (values .entry)) to n (λ (j : ℕ). plainAt op (now (values .entry)) (p + step n (strideOf 1 0) j) (q + step n (strideOf 0 0) j) (u + step n (strideOf 0 0) j)) ⌝ }
+{
+    if (op == 12) | (op == 13) {
+        let y = values[q];
+        let k = arithmetic::exponent(y);
+        if k < 32 {
+            power_values(values, op, n, p, k, to);
+            return;
+        }
+    }
+    left_values(values, op, n, p, q, u, to);
 }
 
 // The numbers of a row, by its strides.
-fn mix_row_values(
+fn plain_row(
     values: &mut [i64],
-    flags: &[u8],
     op: usize,
     n: usize,
     p: usize,
@@ -282,95 +163,78 @@ fn mix_row_values(
     d: Stride,
     to: usize,
 )
-    requires { ⌜ (9 ≤ op) × (op < 19) × (p + span n a < to) × (q + span n b < to) × (u + span n d < to) × (to + n ≤ length (now values)) × (to + n ≤ length (now flags)) × SmallAlong (now values) n p a × SmallAlong (now values) n q b ⌝ }
-    ensures { λ _. ⌜ now (values .exit) ≡ store (now (values .entry)) to n (λ (j : ℕ). three (mixValue op) (now (values .entry)) (now (flags .entry)) (p + step n a j) (q + step n b j) (u + step n d j)) ⌝ }
+    requires { ⌜ (9 ≤ op) × (op < 19) × (p + span n a < to) × (q + span n b < to) × (u + span n d < to) × (to + n ≤ length (now values)) × SmallAlong (now values) n p a × SmallAlong (now values) n q b ⌝ }
+    ensures { λ _. ⌜ now (values .exit) ≡ store (now (values .entry)) to n (λ (j : ℕ). plainAt op (now (values .entry)) (p + step n a j) (q + step n b j) (u + step n d j)) ⌝ }
 {
-    if same_strides(a, b, d, 1, 1) {
-        unit_values(values, flags, op, n, p, q, u, to);
+    if validity::same_strides(a, b, d, 1, 1) {
+        unit_values(values, op, n, p, q, u, to);
         return;
     }
-    if same_strides(a, b, d, 1, 0) {
-        left_values(values, flags, op, n, p, q, u, to);
+    if validity::same_strides(a, b, d, 1, 0) {
+        left_row(values, op, n, p, q, u, to);
         return;
     }
-    if same_strides(a, b, d, 0, 1) {
-        right_values(values, flags, op, n, p, q, u, to);
+    if validity::same_strides(a, b, d, 0, 1) {
+        right_values(values, op, n, p, q, u, to);
         return;
     }
-    row_values(values, flags, op, n, p, a, q, b, u, d, to);
+    row_values(values, op, n, p, a, q, b, u, d, to);
 }
 
-// The flags of a row of a binary operation.
-fn both_flags(
-    values: &[i64],
-    flags: &mut [u8],
-    op: usize,
-    n: usize,
-    p: usize,
-    a: Stride,
-    q: usize,
-    b: Stride,
-    u: usize,
-    d: Stride,
-    to: usize,
-)
-    requires { ⌜ (op ≡ 18 → ⊥) × (9 ≤ op) × (p + span n a < to) × (q + span n b < to) × (u + span n d < to) × (to + n ≤ length (now values)) × (to + n ≤ length (now flags)) ⌝ }
-    ensures { λ _. ⌜ now (flags .exit) ≡ store (now (flags .entry)) to n (λ (j : ℕ). three (mixFlag op) (now (values .entry)) (now (flags .entry)) (p + step n a j) (q + step n b j) (u + step n d j)) ⌝ }
+// Whether n cells are all known.
+fn all_known(flags: &[u8], n: usize, p: usize) -> bool
+    requires { ⌜ p + n ≤ length (now flags) ⌝ }
+    ensures { λ r. ⌜ (r ≡ true → (j : ℕ) → j < n → getD (now (flags .entry)) (p + j) 0 ≡ 1) ⌝ }
 {
-    let one = Stride { up: 1, down: 0 };
-    let none = Stride { up: 0, down: 0 };
-    if same_strides(a, b, d, 1, 1) {
-        row_flags(values, flags, 9, n, p, one, q, one, u, one, to);
-        return;
+    let mut all = true;
+    let mut i = 0;
+    while i < n {
+        all = all & (flags[p + i] == 1);
+        i += 1;
     }
-    if same_strides(a, b, d, 1, 0) {
-        row_flags(values, flags, 9, n, p, one, q, none, u, none, to);
-        return;
-    }
-    if same_strides(a, b, d, 0, 1) {
-        row_flags(values, flags, 9, n, p, none, q, one, u, one, to);
-        return;
-    }
-    row_flags(values, flags, 9, n, p, a, q, b, u, d, to);
+    all
 }
 
-// Which source a WHERE takes: 1 is the second, 0 the third.
-fn side(x: i64) -> u8
-    ensures { λ r. ⌜ r ≡ sideOf x ⌝ }
+// A number under a flag.
+fn cleared(f: u8, x: i64) -> i64
+    ensures { λ r. ⌜ r ≡ clearedValue f x ⌝ }
 {
-    if x == 0 { 0 } else { 1 }
+    if f == 1 { x } else { 0 }
 }
 
-// The flag of the side taken; 0 where the condition is a gap.
-fn side_flag(s: u8, f: u8, g: u8, h: u8) -> u8
-    ensures { λ r. ⌜ r ≡ sideFlag s f g h ⌝ }
-{
-    if f != 1 {
-        return 0;
-    }
-    if s == 0 {
-        return h;
-    }
-    g
-}
-
-// The sides of a row of a WHERE, in the places of its flags: the numbers are read in a loop of their own, and the flags after it are all of one width.
-fn row_sides(values: &[i64], flags: &mut [u8], n: usize, p: usize, a: Stride, to: usize)
-    requires { ⌜ (p + span n a < to) × (to + n ≤ length (now values)) × (to + n ≤ length (now flags)) ⌝ }
-    ensures { λ _. ⌜ now (flags .exit) ≡ store (now (flags .entry)) to n (λ (j : ℕ). sideOf (getD (now (values .entry)) (p + step n a j) (pos 0))) ⌝ }
+// The numbers of a row made 0 where the flags from place p on are gaps.
+fn clear_gaps(values: &mut [i64], flags: &[u8], n: usize, p: usize, a: Stride, to: usize)
+    requires { ⌜ (p + span n a < length (now flags)) × (to + n ≤ length (now values)) ⌝ }
+    ensures { λ _. ⌜ now (values .exit) ≡ store (now (values .entry)) to n (λ (j : ℕ). clearedValue (getD (now (flags .entry)) (p + step n a j) 0) (getD (now (values .entry)) (to + j) (pos 0))) ⌝ }
 {
     let mut i = 0;
     while i < n {
         let k = p + views::step_at(n, a, i);
-        let x = values[k];
-        flags[to + i] = side(x);
+        let x = values[to + i];
+        values[to + i] = cleared(flags[k], x);
         i += 1;
     }
 }
 
-// The flags of a row of a WHERE, where its sides are.
-fn row_chosen(
+// The same; where no gap is there is nothing to do.
+fn clear_row(values: &mut [i64], flags: &[u8], n: usize, p: usize, a: Stride, to: usize)
+    requires { ⌜ (0 < n) × (p + span n a < length (now flags)) × (to + n ≤ length (now values)) ⌝ }
+    ensures { λ _. ⌜ now (values .exit) ≡ store (now (values .entry)) to n (λ (j : ℕ). clearedValue (getD (now (flags .entry)) (p + step n a j) 0) (getD (now (values .entry)) (to + j) (pos 0))) ⌝ }
+{
+    if !views::is_stride(a, 1, 0) {
+        clear_gaps(values, flags, n, p, a, to);
+        return;
+    }
+    if !all_known(flags, n, p) {
+        clear_gaps(values, flags, n, p, Stride { up: 1, down: 0 }, to);
+    }
+}
+
+// The cells of a row.
+fn mix_row(
+    values: &mut [i64],
     flags: &mut [u8],
+    op: usize,
     n: usize,
     p: usize,
     a: Stride,
@@ -380,100 +244,88 @@ fn row_chosen(
     d: Stride,
     to: usize,
 )
-    requires { ⌜ (p + span n a < to) × (q + span n b < to) × (u + span n d < to) × (to + n ≤ length (now flags)) ⌝ }
-    ensures { λ _. ⌜ now (flags .exit) ≡ store (now (flags .entry)) to n (λ (j : ℕ). chosenFlag (now (flags .entry)) (to + j) (p + step n a j) (q + step n b j) (u + step n d j)) ⌝ }
+    requires { ⌜ (0 < n) × (9 ≤ op) × (op < 19) × (p + span n a < to) × (q + span n b < to) × (u + span n d < to) × (to + n ≤ length (now values)) × (to + n ≤ length (now flags)) × SmallAlong (now values) n p a × SmallAlong (now values) n q b ⌝ }
+    ensures { λ _. ⌜ (now (values .exit) ≡ store (now (values .entry)) to n (λ (j : ℕ). three (mixValue op) (now (values .entry)) (now (flags .entry)) (p + step n a j) (q + step n b j) (u + step n d j))) × (now (flags .exit) ≡ store (now (flags .entry)) to n (λ (j : ℕ). three (mixFlag op) (now (values .entry)) (now (flags .entry)) (p + step n a j) (q + step n b j) (u + step n d j))) ⌝ }
+{
+    validity::mix_row_flags(values, flags, op, n, p, a, q, b, u, d, to);
+    plain_row(values, op, n, p, a, q, b, u, d, to);
+    if op == 18 {
+        clear_row(values, flags, n, p, a, to);
+        return;
+    }
+    clear_row(values, flags, n, to, Stride { up: 1, down: 0 }, to);
+}
+
+// None of three strides goes down.
+fn rising(a: Stride, b: Stride, d: Stride) -> bool
+    ensures { λ r. ⌜ (r ≡ true → (a .down ≡ 0) × (b .down ≡ 0) × (d .down ≡ 0)) ⌝ }
+{
+    (a.down == 0) & ((b.down == 0) & (d.down == 0))
+}
+
+// The next part of what is left of a row.
+fn part(left: usize) -> usize
+    requires { ⌜ 0 < left ⌝ }
+    ensures { λ r. ⌜ (0 < r) × (r ≤ left) ⌝ }
+{
+    if left < 1024 { left } else { 1024 }
+}
+
+// The cells of a row in parts of 1024: what one loop leaves in the nearest cache the next finds there.
+fn mix_parts(
+    values: &mut [i64],
+    flags: &mut [u8],
+    op: usize,
+    n: usize,
+    p: usize,
+    a: Stride,
+    q: usize,
+    b: Stride,
+    u: usize,
+    d: Stride,
+    to: usize,
+)
+    requires { ⌜ (a .down ≡ 0) × (b .down ≡ 0) × (d .down ≡ 0) × (9 ≤ op) × (op < 19) × (p + span n a < to) × (q + span n b < to) × (u + span n d < to) × (to + n ≤ length (now values)) × (to + n ≤ length (now flags)) × SmallAlong (now values) n p a × SmallAlong (now values) n q b ⌝ }
+    ensures { λ _. ⌜ (now (values .exit) ≡ store (now (values .entry)) to n (λ (j : ℕ). three (mixValue op) (now (values .entry)) (now (flags .entry)) (p + step n a j) (q + step n b j) (u + step n d j))) × (now (flags .exit) ≡ store (now (flags .entry)) to n (λ (j : ℕ). three (mixFlag op) (now (values .entry)) (now (flags .entry)) (p + step n a j) (q + step n b j) (u + step n d j))) ⌝ }
 {
     let mut i = 0;
     while i < n {
-        let k = p + views::step_at(n, a, i);
-        let l = q + views::step_at(n, b, i);
-        let m = u + views::step_at(n, d, i);
-        let t = to + i;
-        flags[t] = side_flag(flags[t], flags[k], flags[l], flags[m]);
-        i += 1;
+        let m = part(n - i);
+        let k = p + i * a.up;
+        let l = q + i * b.up;
+        let o = u + i * d.up;
+        mix_row(values, flags, op, m, k, a, l, b, o, d, to + i);
+        i += m;
     }
 }
 
-// The flags of a row of a WHERE.
-fn where_flags(
-    values: &[i64],
-    flags: &mut [u8],
-    n: usize,
-    p: usize,
-    a: Stride,
-    q: usize,
-    b: Stride,
-    u: usize,
-    d: Stride,
-    to: usize,
-)
-    requires { ⌜ (p + span n a < to) × (q + span n b < to) × (u + span n d < to) × (to + n ≤ length (now values)) × (to + n ≤ length (now flags)) ⌝ }
-    ensures { λ _. ⌜ now (flags .exit) ≡ store (now (flags .entry)) to n (λ (j : ℕ). three (mixFlag 18) (now (values .entry)) (now (flags .entry)) (p + step n a j) (q + step n b j) (u + step n d j)) ⌝ }
-{
-    let one = Stride { up: 1, down: 0 };
-    if same_strides(a, b, d, 1, 1) {
-        row_sides(values, flags, n, p, one, to);
-        row_chosen(flags, n, p, one, q, one, u, one, to);
-        return;
-    }
-    row_flags(values, flags, 18, n, p, a, q, b, u, d, to);
-}
-
-// The flags of a row.
-fn mix_row_flags(
-    values: &[i64],
-    flags: &mut [u8],
-    op: usize,
-    n: usize,
-    p: usize,
-    a: Stride,
-    q: usize,
-    b: Stride,
-    u: usize,
-    d: Stride,
-    to: usize,
-)
-    requires { ⌜ (9 ≤ op) × (op < 19) × (p + span n a < to) × (q + span n b < to) × (u + span n d < to) × (to + n ≤ length (now values)) × (to + n ≤ length (now flags)) ⌝ }
-    ensures { λ _. ⌜ now (flags .exit) ≡ store (now (flags .entry)) to n (λ (j : ℕ). three (mixFlag op) (now (values .entry)) (now (flags .entry)) (p + step n a j) (q + step n b j) (u + step n d j)) ⌝ }
-{
-    if op != 18 {
-        both_flags(values, flags, op, n, p, a, q, b, u, d, to);
-        return;
-    }
-    where_flags(values, flags, n, p, a, q, b, u, d, to);
-}
-
-// The numbers of every row of three views.
-pub fn mix_values(
+// The cells of a row that may be long.
+fn mix_long_row(
     values: &mut [i64],
-    flags: &[u8],
+    flags: &mut [u8],
     op: usize,
-    g: Row,
-    a: View,
-    b: View,
-    d: View,
-    rows: usize,
-    start: usize,
+    n: usize,
+    p: usize,
+    a: Stride,
+    q: usize,
+    b: Stride,
+    u: usize,
+    d: Stride,
+    to: usize,
 )
-    requires { ⌜ (9 ≤ op) × (op < 19) × (rows ≡ rowsOf g) × (reach g a < start) × (reach g b < start) × (reach g d < start) × (start + rows * g .r3 ≤ length (now values)) × (start + rows * g .r3 ≤ length (now flags)) × SmallBefore (now values) start ⌝ }
-    ensures { λ _. ⌜ now (values .exit) ≡ mixedValues op (now (values .entry)) (now (flags .entry)) g a b d start ⌝ }
+    requires { ⌜ (0 < n) × (9 ≤ op) × (op < 19) × (p + span n a < to) × (q + span n b < to) × (u + span n d < to) × (to + n ≤ length (now values)) × (to + n ≤ length (now flags)) × SmallAlong (now values) n p a × SmallAlong (now values) n q b ⌝ }
+    ensures { λ _. ⌜ (now (values .exit) ≡ store (now (values .entry)) to n (λ (j : ℕ). three (mixValue op) (now (values .entry)) (now (flags .entry)) (p + step n a j) (q + step n b j) (u + step n d j))) × (now (flags .exit) ≡ store (now (flags .entry)) to n (λ (j : ℕ). three (mixFlag op) (now (values .entry)) (now (flags .entry)) (p + step n a j) (q + step n b j) (u + step n d j))) ⌝ }
 {
-    let n = g.r3;
-    let mut i = 0;
-    let mut to = start;
-    while i < rows {
-        let p = views::row_place(g, a, i);
-        let q = views::row_place(g, b, i);
-        let u = views::row_place(g, d, i);
-        mix_row_values(values, flags, op, n, p, a.s3, q, b.s3, u, d.s3, to);
-        to += n;
-        i += 1;
+    if rising(a, b, d) {
+        mix_parts(values, flags, op, n, p, a, q, b, u, d, to);
+        return;
     }
+    mix_row(values, flags, op, n, p, a, q, b, u, d, to);
 }
 
-// The flags of every row of three views.
-pub fn mix_flags(
-    values: &[i64],
+// The cells of every row of three views.
+pub fn mix(
+    values: &mut [i64],
     flags: &mut [u8],
     op: usize,
     g: Row,
@@ -483,8 +335,8 @@ pub fn mix_flags(
     rows: usize,
     start: usize,
 )
-    requires { ⌜ (9 ≤ op) × (op < 19) × (rows ≡ rowsOf g) × (reach g a < start) × (reach g b < start) × (reach g d < start) × (start + rows * g .r3 ≤ length (now values)) × (start + rows * g .r3 ≤ length (now flags)) ⌝ }
-    ensures { λ _. ⌜ now (flags .exit) ≡ mixedFlags op (now (values .entry)) (now (flags .entry)) g a b d start ⌝ }
+    requires { ⌜ (9 ≤ op) × (op < 19) × (0 < g .r3) × (rows ≡ rowsOf g) × (reach g a < start) × (reach g b < start) × (reach g d < start) × (start + rows * g .r3 ≤ length (now values)) × (start + rows * g .r3 ≤ length (now flags)) × SmallBefore (now values) start ⌝ }
+    ensures { λ _. ⌜ (now (values .exit) ≡ mixedValues op (now (values .entry)) (now (flags .entry)) g a b d start) × (now (flags .exit) ≡ mixedFlags op (now (values .entry)) (now (flags .entry)) g a b d start) ⌝ }
 {
     let n = g.r3;
     let mut i = 0;
@@ -493,7 +345,7 @@ pub fn mix_flags(
         let p = views::row_place(g, a, i);
         let q = views::row_place(g, b, i);
         let u = views::row_place(g, d, i);
-        mix_row_flags(values, flags, op, n, p, a.s3, q, b.s3, u, d.s3, to);
+        mix_long_row(values, flags, op, n, p, a.s3, q, b.s3, u, d.s3, to);
         to += n;
         i += 1;
     }

@@ -24,10 +24,10 @@ use Rattle.runner.specs.Run.{valueOf, flagOf}
 use Rattle.views.specs.declared.View.{View}
 use Rattle.views.specs.Views.{cellsOf, place}
 use Rattle.views.specs.Walks.{Walks}
-use Rattle.views.proofs.Steps.{place-le}
-use Rattle.elementwise.specs.Mixing.{mixValue, mixFlag, three, mixedValues, mixedFlags}
+use Rattle.validity.specs.Flags.{mixFlag, three, mixedFlags}
+use Rattle.elementwise.specs.Mixing.{plainValue, mixValue, mixedValues}
 use Rattle.walking.specs.declared.Walk.{Walk}
-use Rattle.walking.specs.Alike.{Still, Near}
+use Rattle.walking.specs.Alike.{Still}
 use Rattle.evaluation.specs.Standing.{Source, Evaluates}
 use Rattle.evaluation.proofs.Walked.{walk-below}
 
@@ -43,31 +43,11 @@ mixed-still : {C : Type 0} (F : ℤ → ℕ → ℤ → ℕ → ℤ → ℕ → 
 mixed-still F vs fs l w t start s =
     rw (s .cells) (store-same l start (cellsOf (w .grid)) _ _ (λ j h. three-same F vs fs (s .a .near j h) (s .b .near j h) (s .d .near j h)))
 
--- numbers from `start` on do not matter to what is read before it
-mixed-kept : {C : Type 0} (F : ℤ → ℕ → ℤ → ℕ → ℤ → ℕ → C) (vs vs′ : List ℤ) (fs : List ℕ) (l : List C) (w : Walk) (start n : ℕ) (f : ℕ → ℤ) → Near w start → vs′ ≡ store vs start n f
-    → store l start (cellsOf (w .grid)) (λ (j : ℕ). three F vs′ fs (place (w .grid) (w .a) j) (place (w .grid) (w .b) j) (place (w .grid) (w .d) j))
-    ≡ store l start (cellsOf (w .grid)) (λ (j : ℕ). three F vs fs (place (w .grid) (w .a) j) (place (w .grid) (w .b) j) (place (w .grid) (w .d) j))
-mixed-kept F vs vs′ fs l w start n f r e = store-same l start (cellsOf (w .grid)) _ _ turn
-  where
-    kept : (p : ℕ) → p < start → getD vs′ p (pos 0) ≡ getD vs p (pos 0)
-    kept p h = store-read vs vs′ start n f p (pos 0) e h
-
-    turn : (j : ℕ) → j < cellsOf (w .grid)
-        → three F vs′ fs (place (w .grid) (w .a) j) (place (w .grid) (w .b) j) (place (w .grid) (w .d) j) ≡ three F vs fs (place (w .grid) (w .a) j) (place (w .grid) (w .b) j) (place (w .grid) (w .d) j)
-    turn j h =
-        let a : place (w .grid) (w .a) j < start = omega (arith, place-le (w .grid) (w .a) j h, r .a) in
-        let b : place (w .grid) (w .b) j < start = omega (arith, place-le (w .grid) (w .b) j h, r .b) in
-        let d : place (w .grid) (w .d) j < start = omega (arith, place-le (w .grid) (w .d) j h, r .d) in
-        rw (kept _ a, kept _ b, kept _ d) refl
-
--- both buffers after a walk over fewer axes: first the numbers, then the flags
-pub mixed-both : (op : ℕ) (vs : List ℤ) (fs : List ℕ) (w t : Walk) (start : ℕ) {vs′ : List ℤ} {fs′ : List ℕ} → Near w start → Still w t
-    → vs′ ≡ mixedValues op vs fs (t .grid) (t .a) (t .b) (t .d) start → fs′ ≡ mixedFlags op vs′ fs (t .grid) (t .a) (t .b) (t .d) start
+-- both buffers after a walk over fewer axes
+pub mixed-both : (op : ℕ) (vs : List ℤ) (fs : List ℕ) (w t : Walk) (start : ℕ) {vs′ : List ℤ} {fs′ : List ℕ} → Still w t
+    → (vs′ ≡ mixedValues op vs fs (t .grid) (t .a) (t .b) (t .d) start) × (fs′ ≡ mixedFlags op vs fs (t .grid) (t .a) (t .b) (t .d) start)
     → (vs′ ≡ mixedValues op vs fs (w .grid) (w .a) (w .b) (w .d) start) × (fs′ ≡ mixedFlags op vs fs (w .grid) (w .a) (w .b) (w .d) start)
-mixed-both op vs fs w t start {vs′} near s ev ef = (
-  ev ∙ mixed-still (mixValue op) vs fs vs w t start s,
-  ef ∙ mixed-still (mixFlag op) vs′ fs fs w t start s ∙ mixed-kept (mixFlag op) vs vs′ fs fs w start _ _ near ev,
-)
+mixed-both op vs fs w t start s e = (e .0 ∙ mixed-still (mixValue op) vs fs vs w t start s, e .1 ∙ mixed-still (mixFlag op) vs fs fs w t start s)
 
 -- ---- the cell rules
 
@@ -76,7 +56,7 @@ abbrev ofCells : {C : Type 0} → (ℤ → ℕ → ℤ → ℕ → ℤ → ℕ �
 ofCells F a b d = F (valueOf a) (flagOf a) (valueOf b) (flagOf b) (valueOf d) (flagOf d)
 
 both-value : (op : ℕ) → (op ≡ WHERE → ⊥) → (a b d : Cell) → ofCells (mixValue op) a b d ≡ valueOf (both (binary op) a b)
-unfolding mixValue
+unfolding mixValue mixFlag plainValue
 both-value op n (known x) (known y) d = rw (ne-eqb op WHERE n) refl
 both-value op n (known x) gap d = rw (ne-eqb op WHERE n) refl
 both-value op n gap b d = rw (ne-eqb op WHERE n) refl
@@ -92,7 +72,7 @@ choose f true y z = refl
 choose f false y z = refl
 
 where-value : (a b d : Cell) → ofCells (mixValue WHERE) a b d ≡ valueOf (whereCell a b d)
-unfolding mixValue
+unfolding mixValue plainValue
 where-value (known x) b d = choose valueOf (sameZ x (pos 0)) b d
 where-value gap b d = refl
 

@@ -17,7 +17,8 @@ ghost use Rattle.shapes.specs.Sources.{broadcastSource};
 ghost use Rattle.shapes.proofs.Broadcast.{Spreads};
 ghost use Rattle.shapes.proofs.Extents.{Positive};
 ghost use Rattle.views.specs.Walks.{InFront, Walks};
-ghost use Rattle.elementwise.specs.Mixing.{mixedValues, mixedFlags};
+ghost use Rattle.elementwise.specs.Mixing.{mixedValues};
+ghost use Rattle.validity.specs.Flags.{mixedFlags};
 ghost use Rattle.views.specs.Numbers.{SmallBefore};
 ghost use Rattle.walking.specs.Alike.{Near};
 ghost use Rattle.evaluation.specs.Ready.{Proper, Right, Ready, Reads};
@@ -168,8 +169,7 @@ fn mix_cells(op: usize, w: Walk, values: &mut [i64], flags: &mut [u8], start: us
 {
     let t = walking::settle(w);
     let rows = walking::rows(t.grid);
-    elementwise::mix_values(values, flags, op, t.grid, t.a, t.b, t.d, rows, start);
-    elementwise::mix_flags(values, flags, op, t.grid, t.a, t.b, t.d, rows, start);
+    elementwise::mix(values, flags, op, t.grid, t.a, t.b, t.d, rows, start);
 }
 
 // ADD to OR.

@@ -1,6 +1,6 @@
 -- Signed numbers of the machine: which fit a width, what is read back from their bits, and what keeps a product inside 64 bits.
 use mathlib.Core.Path.{_≡_, sym, ap, _∙_}
-use mathlib.Core.Bool.{Bool, false}
+use mathlib.Core.Bool.{Bool, true, false}
 use Prim.Native.Nat.{ℕ, suc, _+_, _*_, _^_, _≤_, _<_, max}
 use native.Mathlib.Nat.{mul-le-mul, lt-of-le-of-lt}
 use native.Mathlib.Omega.{arith}
@@ -10,7 +10,9 @@ use lib.Signed.{mag, ltZ, leZ, _≤ℤ_, nonNeg, yes-nonNeg, pos-natAbs}
 use mir.Facts.{toZ-ofZ, fits-natAbs}
 use mir.Syntax.{Width, w64}
 use mir.Val.{SFits, Fits, hbits, toZ, ofZ}
-use Rattle.laws.specs.Integers.{Within}
+use Rattle.laws.specs.Integers.{Within, sameZ}
+use Rattle.laws.proofs.Booleans.{bool-cases}
+use Rattle.laws.proofs.Order.{same-is, is-same}
 use Rattle.laws.proofs.Absolute.{abs-mul, mul-small}
 use Rattle.laws.proofs.Parts.{up, dn, arithℤ, eq-parts, of-le, ltZ-true, ltZ-false, leZ-true, leZ-false}
 
@@ -61,6 +63,12 @@ bits-eq f g e = sym (toZ-ofZ f) ∙ ap (toZ w64) e ∙ toZ-ofZ g
 
 pub bits-is : {a : ℤ} {k : ℕ} → SFits w64 a → ofZ w64 a ≡ k → a ≡ toZ w64 k
 bits-is f e = sym (toZ-ofZ f) ∙ ap (toZ w64) e
+
+pub same-bits : {x y : ℤ} → SFits w64 x → SFits w64 y → ofZ w64 x ≡ ofZ w64 y → sameZ x y ≡ true
+same-bits {x} {y} f g e = rw (bits-eq f g e) (is-same y)
+
+pub other-bits : (x y : ℤ) → (ofZ w64 x ≡ ofZ w64 y → ⊥) → sameZ x y ≡ false
+other-bits x y n = bool-cases (sameZ x y) (λ e. let h : x ≡ y = same-is {a = x} {b = y} e in absurd (n (ap (ofZ w64) h))) (λ e. e)
 
 -- a number fits by the bound that a call's `.ok`, a read's `.given` or a field's `.struct-told .given` has, or by its absolute value
 pub fit-at : (z : ℤ) → mag z < 9223372036854775808 → SFits w64 z

@@ -7,7 +7,7 @@ use mathlib.Core.Path.{_≡_, refl, sym, _∙_}
 use mathlib.Core.List.{List, _++_, append-nil, append-assoc}
 use mathlib.Core.Logic.{⊎-elim}
 use lib.ListN.{length, getD, set, take, drop, length-set, length-append, take-append-drop}
-use lib.Seq.{getD-set-same, getD-set-other, set-comm, set-set, set-at, drop-cons, append-snoc, length-take-le}
+use lib.Seq.{getD-set-same, getD-set-other, set-comm, set-set, set-at, set-getD, drop-cons, append-snoc, length-take-le}
 use Rattle.laws.specs.Lists.{tab}
 use Rattle.laws.specs.Store.{store}
 use Rattle.laws.proofs.Lists.{length-tab, tab-snoc}
@@ -78,9 +78,19 @@ module _ {A : Type 0} where
   store-append l s a zero f = rw add-zero
   store-append l s a (suc b) f = rw (add-suc, add-assoc, store-append l s a b f)
 
+  pub store-after-store : (l m m′ : List A) (s a b : ℕ) (f g : ℕ → A) → m ≡ store l s a f → m′ ≡ store m (s + a) b g
+      → ((c : ℕ) → c < b → g c ≡ f (a + c)) → m′ ≡ store l s (a + b) f
+  store-after-store l m m′ s a b f g e e′ h = e′ ∙ store-same m (s + a) b g (λ (c : ℕ). f (a + c)) h ∙ rw (e, store-append)
+
   pub store-block : (l m m′ : List A) (s r b : ℕ) (f g : ℕ → A) → m ≡ store l s (r * b) f → m′ ≡ store m (s + r * b) b g
       → ((c : ℕ) → c < b → g c ≡ f (r * b + c)) → m′ ≡ store l s ((r + 1) * b) f
-  store-block l m m′ s r b f g e e′ h = e′ ∙ store-same m (s + r * b) b g (λ (c : ℕ). f (r * b + c)) h ∙ rw (e, store-append, add-mul, one-mul)
+  store-block l m m′ s r b f g e e′ h = rw (add-mul, one-mul) (store-after-store l m m′ s (r * b) b f g e e′ h)
+
+  -- each place with what it has
+  pub store-own : (l : List A) (s n : ℕ) (d : A) → store l s n (λ (j : ℕ). getD l (s + j) d) ≡ l
+  unfolding store
+  store-own l s zero d = refl
+  store-own l s (suc n) d = rw (store-own l s n d) (set-getD l (s + n) d)
 
   -- the same places written again
   store-out : (l : List A) (s n : ℕ) (g : ℕ → A) (k : ℕ) (x : A) → s + n ≤ k → store (set l k x) s n g ≡ set (store l s n g) k x

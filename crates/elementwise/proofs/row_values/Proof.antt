@@ -8,17 +8,18 @@ use Rattle.laws.proofs.Store.{store-none, store-step, store-done}
 use Rattle.views.specs.Views.{step}
 use borrow.Author.Needs.{needs, sfits-of}
 use Rattle.laws.proofs.Machine.{R-is, fit-at}
-use Rattle.elementwise.specs.Mixing.{mixValue, three}
-use Rattle.elementwise.proofs.Rows.{kept, kept-all, small-kept, three-read}
+use Rattle.elementwise.specs.Mixing.{plainAt}
+use Rattle.validity.proofs.Rows.{kept}
+use Rattle.elementwise.proofs.Rows.{small-kept, plain-read}
 use Rattle.elementwise.proofs.row_values.Statement.{statement}
 use Rattle.elementwise.proofs.row_values.Tie as tie
 
 abbrev Inv-loop : tie.InvT-loop
-Inv-loop values₀ flags op n p a q b u d to i₀ values i =
-    (i ≤ n) × (length values ≡ length values₀) × (values ≡ store values₀ to i (λ (j : ℕ). three (mixValue op) values₀ flags (p + step n a j) (q + step n b j) (u + step n d j)))
+Inv-loop values₀ op n p a q b u d to i₀ values i =
+    (i ≤ n) × (length values ≡ length values₀) × (values ≡ store values₀ to i (λ (j : ℕ). plainAt op values₀ (p + step n a j) (q + step n b j) (u + step n d j)))
 
 abbrev μ-loop : tie.MeasureT-loop
-μ-loop values₀ flags op n p a q b u d to i₀ values i = n - i
+μ-loop values₀ op n p a q b u d to i₀ values i = n - i
 
 loop-holds : tie.Need-loop-holds Inv-loop μ-loop
 loop-holds c = (search needs, refl, store-none _ _ _)
@@ -59,32 +60,27 @@ mul-z c = search needs
 slice-copy-out-z : tie.Need-slice-copy-out-z Inv-loop μ-loop
 slice-copy-out-z c = search needs
 
-shared-slice-read-mix-value : tie.Need-shared-slice-read-mix-value Inv-loop μ-loop
-shared-slice-read-mix-value c = search needs
-
-shared-slice-read-mix-value-2 : tie.Need-shared-slice-read-mix-value-2 Inv-loop μ-loop
-shared-slice-read-mix-value-2 c = search needs
-
-mix-value-requires : tie.Need-mix-value-requires Inv-loop μ-loop
-mix-value-requires c κs =
-    let i = c .before .before .before .before .before .before .before .before .before in
-    let s = i .before .before in
+plain-value-requires : tie.Need-plain-value-requires Inv-loop μ-loop
+plain-value-requires c κs =
+    let t = c .before .before .before .before .before .before in
+    let i = t .before in
+    let s = i .before in
     let j = i .loop .i in
     let a = s .args in
-    let first = c .before .before .before .before .before .before .before .step-at .ensures in
-    let second = c .before .before .before .before .before .before .step-at2 .ensures in
+    let first = c .before .before .before .before .before .step-at .ensures in
+    let second = c .before .before .before .before .step-at2 .ensures in
     let v = kept (pos 0) _ _ _ _ _ (i .loop .inv .2) in (
       s .pre .0,
       s .pre .1,
-      small-kept v {p = a .p + step (a .n) (a .a) j} (omega (arith, first)) (omega (arith, first, s .pre)) (fit-at _ (c .before .before .before .before .x .given)) (s .pre .7 j (c .before .before .before .before .before .before .before .before .loop-test .taken)),
-      small-kept v {p = a .q + step (a .n) (a .b) j} (omega (arith, second)) (omega (arith, second, s .pre)) (fit-at _ (c .before .before .before .y .given)) (s .pre .8 j (c .before .before .before .before .before .before .before .before .loop-test .taken)),
+      small-kept v {p = a .p + step (a .n) (a .a) j} (omega (arith, first)) (omega (arith, first, s .pre)) (fit-at _ (c .before .before .x .given)) (s .pre .6 j (t .loop-test .taken)),
+      small-kept v {p = a .q + step (a .n) (a .b) j} (omega (arith, second)) (omega (arith, second, s .pre)) (fit-at _ (c .before .y .given)) (s .pre .7 j (t .loop-test .taken)),
     )
 
-add-t20 : tie.Need-add-t20 Inv-loop μ-loop
-add-t20 c = search needs
+add-t19 : tie.Need-add-t19 Inv-loop μ-loop
+add-t19 c = search needs
 
-mul-t29 : tie.Need-mul-t29 Inv-loop μ-loop
-mul-t29 c = search needs
+mul-t24 : tie.Need-mul-t24 Inv-loop μ-loop
+mul-t24 c = search needs
 
 slice-set-from-values : tie.Need-slice-set-from-values Inv-loop μ-loop
 slice-set-from-values c = search needs
@@ -97,18 +93,19 @@ loop-less c = search needs
 
 loop-again : tie.Need-loop-again Inv-loop μ-loop
 loop-again c =
-    let i = c .before .before .before .before .before .before .before .before .before .before in
-    let s = i .before .before in
+    let t = c .before .before .before .before .before .before .before in
+    let i = t .before in
+    let s = i .before in
     let a = s .args in
-    let first = c .before .before .before .before .before .before .before .before .step-at .ensures in
-    let second = c .before .before .before .before .before .before .before .step-at2 .ensures in
-    let third = c .before .before .before .before .before .before .step-at3 .ensures in
+    let first = c .before .before .before .before .before .before .step-at .ensures in
+    let second = c .before .before .before .before .before .step-at2 .ensures in
+    let third = c .before .before .before .before .step-at3 .ensures in
     let v = kept (pos 0) _ _ _ _ _ (i .loop .inv .2) in (
-      omega (arith, c .before .before .before .before .before .before .before .before .before .loop-test .taken),
+      omega (arith, t .loop-test .taken),
       rw length-set (i .loop .inv .1),
       store-step _ _ _ _ _ _ (i .loop .inv .2)
-          (R-is (sfits-of (c .mix-value .ok)) ∙ c .mix-value .ensures _
-          ∙ three-read v (kept-all 0 (a .flags .now) (a .to)) (mixValue (a .op)) (omega (arith, first)) (omega (arith, second)) (omega (arith, third)) (omega (arith, first, s .pre)) (omega (arith, second, s .pre)) (omega (arith, third, s .pre)) (R-is (fit-at _ (c .before .before .before .before .before .x .given))) (R-is (fit-at _ (c .before .before .before .before .y .given))) (R-is (fit-at _ (c .before .before .before .z .given)))),
+          (R-is (sfits-of (c .plain-value .ok)) ∙ c .plain-value .ensures
+          ∙ plain-read v (a .op) (omega (arith, first)) (omega (arith, second)) (omega (arith, third)) (omega (arith, first, s .pre)) (omega (arith, second, s .pre)) (omega (arith, third, s .pre)) (R-is (fit-at _ (c .before .before .before .x .given))) (R-is (fit-at _ (c .before .before .y .given))) (R-is (fit-at _ (c .before .z .given)))),
     )
 
 same-length : tie.Need-same-length Inv-loop μ-loop
@@ -136,11 +133,9 @@ row-values-spec =
     slice-copy-out-y
     mul-z
     slice-copy-out-z
-    shared-slice-read-mix-value
-    shared-slice-read-mix-value-2
-    mix-value-requires
-    add-t20
-    mul-t29
+    plain-value-requires
+    add-t19
+    mul-t24
     slice-set-from-values
     add-i
     loop-less

@@ -1,7 +1,5 @@
-use mathlib.Core.Path.{ap, _∙_}
 use native.Mathlib.Omega.{arith}
-use lib.ListN.{length}
-use Rattle.laws.proofs.Store.{length-store}
+use Rattle.views.proofs.Axiswise.{fourth-pos}
 use Rattle.evaluation.proofs.Mixed.{mixed-both}
 use borrow.Author.Needs.{needs}
 use Rattle.evaluation.proofs.mix_cells.Statement.{statement}
@@ -13,22 +11,14 @@ settle-requires c κs = let p = c .before in record { some = p .pre .3; few = om
 rows-requires : tie.Need-rows-requires
 rows-requires c κs = let p = c .before .before in let w = c .settle .ensures in (omega (arith, w .cells, p .pre .3), omega (arith, w .cells, p .pre .4, p .good .0))
 
-mix-values-requires : tie.Need-mix-values-requires
-mix-values-requires c κs =
+mix-requires : tie.Need-mix-requires
+mix-requires c κs =
     let p = c .before .before .before .before .before in
-    let w = c .before .before .before .settle .ensures in
+    let t = c .before .before .before .settle in
+    let w = t .ensures in
     let n = c .before .before .rows .ensures in
     let near = p .pre .2 in
-    (p .pre .0, p .pre .1, n, omega (arith, w .a .far, near .a), omega (arith, w .b .far, near .b), omega (arith, w .d .far, near .d), rw n (omega (arith, w .cells, p .pre .4)), rw n (omega (arith, w .cells, p .pre .5)), p .pre .6)
-
-mix-flags-requires : tie.Need-mix-flags-requires
-mix-flags-requires c κs =
-    let p = c .before .before .before .before .before .before .before .before .before in
-    let w = c .before .before .before .before .before .before .before .settle .ensures in
-    let n = c .before .before .before .before .before .before .rows .ensures in
-    let near = p .pre .2 in
-    let long = ap length (c .before .before .before .mix-values .ensures) ∙ length-store _ _ _ _ in
-    (p .pre .0, p .pre .1, n, omega (arith, w .a .far, near .a), omega (arith, w .b .far, near .b), omega (arith, w .d .far, near .d), rw n (omega (arith, w .cells, p .pre .4, long)), rw n (omega (arith, w .cells, p .pre .5)))
+    (p .pre .0, p .pre .1, fourth-pos (t .result .grid) 0 (omega (arith, w .cells, p .pre .3)), n, omega (arith, w .a .far, near .a), omega (arith, w .b .far, near .b), omega (arith, w .d .far, near .d), rw n (omega (arith, w .cells, p .pre .4)), rw n (omega (arith, w .cells, p .pre .5)), p .pre .6)
 
 same-length : tie.Need-same-length
 same-length c = search needs
@@ -38,20 +28,9 @@ same-length-2 c = search needs
 
 returns : tie.Need-returns
 returns c =
-    let p = c .before .before .before .before .before .before .before .before .before .before .before .before in
-    let a = p .args in
-    let t = c .before .before .before .before .before .before .before .before .before .before .settle in
-    let s = t .ensures in
-    mixed-both (a .op) (a .values .now) (a .flags .now) (a .w) (t .result) (a .start) (p .pre .2) s (c .before .before .before .before .before .before .mix-values .ensures) (c .before .before .mix-flags .ensures)
+    let t = c .before .before .before .before .before .before .before .settle in
+    let a = c .before .before .before .before .before .before .before .before .before .args in
+    mixed-both (a .op) (a .values .now) (a .flags .now) (a .w) (t .result) (a .start) (t .ensures) (c .before .before .before .mix .ensures)
 
 pub mix-cells-spec : {M : Type 1} → statement M
-mix-cells-spec =
-    tie.close
-    (tie.spec
-    settle-requires
-    rows-requires
-    mix-values-requires
-    mix-flags-requires
-    same-length
-    same-length-2
-    returns)
+mix-cells-spec = tie.close (tie.spec settle-requires rows-requires mix-requires same-length same-length-2 returns)

@@ -1,0 +1,253 @@
+// The flags of binary operations and WHERE, a row at a time, from three views.
+ghost use mathlib.Core.Path.{_≡_};
+ghost use mathlib.Core.Bool.{true};
+ghost use Prim.Native.Nat.{ℕ, _+_, _≤_, _<_};
+ghost use lib.IntN.{ℤ, pos};
+ghost use lib.ListN.{length, getD};
+ghost use Rattle.laws.specs.Store.{store};
+ghost use Rattle.views.specs.Views.{strideOf, step, span};
+ghost use Rattle.validity.specs.Flags.{mixFlag, sideOf, sideFlag, chosenFlag, three};
+use views::Stride;
+
+// The first view steps by x and the other two by y.
+pub fn same_strides(a: Stride, b: Stride, d: Stride, x: usize, y: usize) -> bool
+    ensures { λ r. ⌜ (r ≡ true → (a ≡ strideOf x 0) × (b ≡ strideOf y 0) × (d ≡ strideOf y 0)) ⌝ }
+{
+    views::is_stride(a, x, 0) & (views::is_stride(b, y, 0) & views::is_stride(d, y, 0))
+}
+
+// Its flag.
+fn mix_flag(op: usize, x: i64, f: u8, g: u8, h: u8) -> u8
+    ensures { λ r. ⌜ ((y z : ℤ) → r ≡ mixFlag op x f y g z h) ⌝ }
+{
+    if op == 18 {
+        if f != 1 {
+            return 0;
+        }
+        if x == 0 {
+            return h;
+        }
+        return g;
+    }
+    if f != 1 {
+        return 0;
+    }
+    if g != 1 {
+        return 0;
+    }
+    1
+}
+
+// The flags of a row.
+fn row_flags(
+    values: &[i64],
+    flags: &mut [u8],
+    op: usize,
+    n: usize,
+    p: usize,
+    a: Stride,
+    q: usize,
+    b: Stride,
+    u: usize,
+    d: Stride,
+    to: usize,
+)
+    requires { ⌜ (9 ≤ op) × (op < 19) × (p + span n a < to) × (q + span n b < to) × (u + span n d < to) × (to + n ≤ length (now values)) × (to + n ≤ length (now flags)) ⌝ }
+    ensures { λ _. ⌜ now (flags .exit) ≡ store (now (flags .entry)) to n (λ (j : ℕ). three (mixFlag op) (now (values .entry)) (now (flags .entry)) (p + step n a j) (q + step n b j) (u + step n d j)) ⌝ }
+{
+    let mut i = 0;
+    while i < n {
+        let k = p + views::step_at(n, a, i);
+        let l = q + views::step_at(n, b, i);
+        let m = u + views::step_at(n, d, i);
+        let x = values[k];
+        flags[to + i] = mix_flag(op, x, flags[k], flags[l], flags[m]);
+        i += 1;
+    }
+}
+
+// The flags of a row of a binary operation.
+fn both_flags(
+    values: &[i64],
+    flags: &mut [u8],
+    op: usize,
+    n: usize,
+    p: usize,
+    a: Stride,
+    q: usize,
+    b: Stride,
+    u: usize,
+    d: Stride,
+    to: usize,
+)
+    requires { ⌜ (op ≡ 18 → ⊥) × (9 ≤ op) × (p + span n a < to) × (q + span n b < to) × (u + span n d < to) × (to + n ≤ length (now values)) × (to + n ≤ length (now flags)) ⌝ }
+    ensures { λ _. ⌜ now (flags .exit) ≡ store (now (flags .entry)) to n (λ (j : ℕ). three (mixFlag op) (now (values .entry)) (now (flags .entry)) (p + step n a j) (q + step n b j) (u + step n d j)) ⌝ }
+{
+    let one = Stride { up: 1, down: 0 };
+    let none = Stride { up: 0, down: 0 };
+    if same_strides(a, b, d, 1, 1) {
+        row_flags(values, flags, 9, n, p, one, q, one, u, one, to);
+        return;
+    }
+    if same_strides(a, b, d, 1, 0) {
+        row_flags(values, flags, 9, n, p, one, q, none, u, none, to);
+        return;
+    }
+    if same_strides(a, b, d, 0, 1) {
+        row_flags(values, flags, 9, n, p, none, q, one, u, one, to);
+        return;
+    }
+    row_flags(values, flags, 9, n, p, a, q, b, u, d, to);
+}
+
+// Which source a WHERE takes: 1 is the second, 0 the third.
+fn side(x: i64) -> u8
+    ensures { λ r. ⌜ r ≡ sideOf x ⌝ }
+{
+    if x == 0 { 0 } else { 1 }
+}
+
+// The flag of the side taken; 0 where the condition is a gap.
+fn side_flag(s: u8, f: u8, g: u8, h: u8) -> u8
+    ensures { λ r. ⌜ r ≡ sideFlag s f g h ⌝ }
+{
+    if f != 1 {
+        return 0;
+    }
+    if s == 0 {
+        return h;
+    }
+    g
+}
+
+// The sides of a row of a WHERE, in the places of its flags: the numbers are read in a loop of their own, and the flags after it are all of one width.
+fn row_sides(values: &[i64], flags: &mut [u8], n: usize, p: usize, a: Stride, to: usize)
+    requires { ⌜ (p + span n a < to) × (to + n ≤ length (now values)) × (to + n ≤ length (now flags)) ⌝ }
+    ensures { λ _. ⌜ now (flags .exit) ≡ store (now (flags .entry)) to n (λ (j : ℕ). sideOf (getD (now (values .entry)) (p + step n a j) (pos 0))) ⌝ }
+{
+    let mut i = 0;
+    while i < n {
+        let k = p + views::step_at(n, a, i);
+        let x = values[k];
+        flags[to + i] = side(x);
+        i += 1;
+    }
+}
+
+// The sides of eight cells: all are read before one is written, so that the machine finds them together.
+fn eight_sides(values: &[i64], flags: &mut [u8], p: usize, to: usize)
+    requires { ⌜ (p + 8 ≤ length (now values)) × (to + 8 ≤ length (now flags)) ⌝ }
+    ensures { λ _. ⌜ now (flags .exit) ≡ store (now (flags .entry)) to 8 (λ (j : ℕ). sideOf (getD (now (values .entry)) (p + j) (pos 0))) ⌝ }
+{
+    let x0 = values[p];
+    let x1 = values[p + 1];
+    let x2 = values[p + 2];
+    let x3 = values[p + 3];
+    let x4 = values[p + 4];
+    let x5 = values[p + 5];
+    let x6 = values[p + 6];
+    let x7 = values[p + 7];
+    flags[to] = side(x0);
+    flags[to + 1] = side(x1);
+    flags[to + 2] = side(x2);
+    flags[to + 3] = side(x3);
+    flags[to + 4] = side(x4);
+    flags[to + 5] = side(x5);
+    flags[to + 6] = side(x6);
+    flags[to + 7] = side(x7);
+}
+
+// The sides of a row of a WHERE that goes from place to place.
+fn unit_sides(values: &[i64], flags: &mut [u8], n: usize, p: usize, to: usize)
+    requires { ⌜ (p + span n (strideOf 1 0) < to) × (to + n ≤ length (now values)) × (to + n ≤ length (now flags)) ⌝ }
+    ensures { λ _. ⌜ now (flags .exit) ≡ store (now (flags .entry)) to n (λ (j : ℕ). sideOf (getD (now (values .entry)) (p + step n (strideOf 1 0) j) (pos 0))) ⌝ }
+{
+    let mut i = 0;
+    while n - i >= 8 {
+        eight_sides(values, flags, p + i, to + i);
+        i += 8;
+    }
+    row_sides(
+        values,
+        flags,
+        n - i,
+        p + i,
+        Stride { up: 1, down: 0 },
+        to + i,
+    );
+}
+
+// The flags of a row of a WHERE, where its sides are.
+fn row_chosen(
+    flags: &mut [u8],
+    n: usize,
+    p: usize,
+    a: Stride,
+    q: usize,
+    b: Stride,
+    u: usize,
+    d: Stride,
+    to: usize,
+)
+    requires { ⌜ (p + span n a < to) × (q + span n b < to) × (u + span n d < to) × (to + n ≤ length (now flags)) ⌝ }
+    ensures { λ _. ⌜ now (flags .exit) ≡ store (now (flags .entry)) to n (λ (j : ℕ). chosenFlag (now (flags .entry)) (to + j) (p + step n a j) (q + step n b j) (u + step n d j)) ⌝ }
+{
+    let mut i = 0;
+    while i < n {
+        let k = p + views::step_at(n, a, i);
+        let l = q + views::step_at(n, b, i);
+        let m = u + views::step_at(n, d, i);
+        let t = to + i;
+        flags[t] = side_flag(flags[t], flags[k], flags[l], flags[m]);
+        i += 1;
+    }
+}
+
+// The flags of a row of a WHERE.
+fn where_flags(
+    values: &[i64],
+    flags: &mut [u8],
+    n: usize,
+    p: usize,
+    a: Stride,
+    q: usize,
+    b: Stride,
+    u: usize,
+    d: Stride,
+    to: usize,
+)
+    requires { ⌜ (p + span n a < to) × (q + span n b < to) × (u + span n d < to) × (to + n ≤ length (now values)) × (to + n ≤ length (now flags)) ⌝ }
+    ensures { λ _. ⌜ now (flags .exit) ≡ store (now (flags .entry)) to n (λ (j : ℕ). three (mixFlag 18) (now (values .entry)) (now (flags .entry)) (p + step n a j) (q + step n b j) (u + step n d j)) ⌝ }
+{
+    let one = Stride { up: 1, down: 0 };
+    if same_strides(a, b, d, 1, 1) {
+        unit_sides(values, flags, n, p, to);
+        row_chosen(flags, n, p, one, q, one, u, one, to);
+        return;
+    }
+    row_flags(values, flags, 18, n, p, a, q, b, u, d, to);
+}
+
+// The flags of a row.
+pub fn mix_row_flags(
+    values: &[i64],
+    flags: &mut [u8],
+    op: usize,
+    n: usize,
+    p: usize,
+    a: Stride,
+    q: usize,
+    b: Stride,
+    u: usize,
+    d: Stride,
+    to: usize,
+)
+    requires { ⌜ (9 ≤ op) × (op < 19) × (p + span n a < to) × (q + span n b < to) × (u + span n d < to) × (to + n ≤ length (now values)) × (to + n ≤ length (now flags)) ⌝ }
+    ensures { λ _. ⌜ now (flags .exit) ≡ store (now (flags .entry)) to n (λ (j : ℕ). three (mixFlag op) (now (values .entry)) (now (flags .entry)) (p + step n a j) (q + step n b j) (u + step n d j)) ⌝ }
+{
+    if op != 18 {
+        both_flags(values, flags, op, n, p, a, q, b, u, d, to);
+        return;
+    }
+    where_flags(values, flags, n, p, a, q, b, u, d, to);
+}
