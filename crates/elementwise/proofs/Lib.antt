@@ -1,4 +1,3 @@
 pub mod Arms
-pub mod Clearing
 pub mod PowerRows
 pub mod Rows

@@ -1,6 +1,6 @@
 -- The rows of three views: numbers read while a buffer is written behind them, gaps cleared, a row in parts.
 use Prim.Native.Nat.{ℕ, _+_, _*_, _-_, _≤_, _<_}
-use mathlib.Core.Path.{_≡_, refl}
+use mathlib.Core.Path.{_≡_, refl, _∙_}
 use mathlib.Core.List.{List}
 use native.Mathlib.Nat.{add-zero, add-mul, mul-zero, mul-le-mul-right}
 use native.Mathlib.Omega.{arith}
@@ -11,17 +11,18 @@ use mir.Syntax.{w64}
 use mir.Val.{SFits}
 use Rattle.laws.specs.Store.{store}
 use Rattle.laws.proofs.Machine.{Small, R, R-is}
-use Rattle.laws.proofs.Store.{store-read, store-hit, store-again, store-after-store}
+use Rattle.laws.proofs.Store.{store-read, store-hit, store-same, store-again, store-after-store}
 use Rattle.plan.specs.declared.Row.{Row}
 use Rattle.views.specs.declared.Stride.{Stride}
 use Rattle.views.specs.declared.View.{View}
-use Rattle.views.specs.Views.{strideOf, step, span, rowsOf, rowPlace, reach}
+use Rattle.views.specs.Views.{step, span, rowsOf, rowPlace, reach}
 use Rattle.views.specs.Numbers.{SmallBefore}
 use Rattle.views.proofs.RowPlaces.{cell-below}
 use Rattle.views.proofs.Steps.{step-le}
-use Rattle.validity.specs.Flags.{mixFlag, three}
-use Rattle.validity.proofs.Rows.{Kept, three-kept, unit-step}
-use Rattle.elementwise.specs.Mixing.{plainValue, clearedValue, mixValue, plainAt, SmallAlong}
+use Rattle.validity.specs.Flags.{mixFlag, clearedValue, three}
+use Rattle.validity.proofs.Clearing.{both-cleared}
+use Rattle.validity.proofs.Rows.{Kept, three-kept}
+use Rattle.elementwise.specs.Mixing.{plainValue, mixValue, plainAt, SmallAlong}
 
 module _ {vs ws : List ℤ} {s : ℕ} (v : Kept (pos 0) vs ws s) where
   -- a number read at k, where the one at p was
@@ -43,16 +44,17 @@ module _ {vs ws : List ℤ} {s : ℕ} (v : Kept (pos 0) vs ws s) where
 
 module _ (op : ℕ) (vs vs₁ vs₂ : List ℤ) (fs gs : List ℕ) (s n : ℕ) (p q u : ℕ → ℕ) (near : (j : ℕ) → j < n → p j < s) (room : s + n ≤ length vs) (room-flags : s + n ≤ length fs)
     (e : vs₁ ≡ store vs s n (λ (j : ℕ). plainAt op vs (p j) (q j) (u j))) (eg : gs ≡ store fs s n (λ (j : ℕ). three (mixFlag op) vs fs (p j) (q j) (u j))) where
-  pub where-cleared : op ≡ 18 → vs₂ ≡ store vs₁ s n (λ (j : ℕ). clearedValue (getD gs (p j) 0) (getD vs₁ (s + j) (pos 0)))
+  -- by the condition's flags
+  pub where-mixed : op ≡ 18 → vs₂ ≡ store vs₁ s n (λ (j : ℕ). clearedValue (getD gs (p j) 0) (getD vs₁ (s + j) (pos 0)))
       → vs₂ ≡ store vs s n (λ (j : ℕ). three (mixValue op) vs fs (p j) (q j) (u j))
   unfolding mixValue
-  where-cleared is h = store-again vs vs₁ vs₂ s n _ _ _ e h (λ k w. rw (store-hit vs vs₁ s n _ k (pos 0) e w room, store-read fs gs s n _ (p k) 0 eg (near k w), is) refl)
+  where-mixed is h = store-again vs vs₁ vs₂ s n _ _ _ e h (λ k w. rw (store-hit vs vs₁ s n _ k (pos 0) e w room, store-read fs gs s n _ (p k) 0 eg (near k w), is) refl)
 
-  pub both-cleared : (op ≡ 18 → ⊥) → vs₂ ≡ store vs₁ s n (λ (j : ℕ). clearedValue (getD gs (s + step n (strideOf 1 0) j) 0) (getD vs₁ (s + j) (pos 0)))
+  -- by the result's
+  pub both-mixed : (op ≡ 18 → ⊥) → vs₂ ≡ store vs₁ s n (λ (j : ℕ). clearedValue (getD gs (s + j) 0) (getD vs₁ (s + j) (pos 0)))
       → vs₂ ≡ store vs s n (λ (j : ℕ). three (mixValue op) vs fs (p j) (q j) (u j))
   unfolding mixValue
-  both-cleared not h =
-      store-again vs vs₁ vs₂ s n _ _ _ e h (λ k w. rw (unit-step n k, store-hit vs vs₁ s n _ k (pos 0) e w room, store-hit fs gs s n _ k 0 eg w room-flags, ne-eqb op 18 not) refl)
+  both-mixed not h = both-cleared vs vs₁ vs₂ fs gs s n _ _ room room-flags e eg h ∙ store-same vs s n _ _ (λ k w. rw (ne-eqb op 18 not) refl)
 
 -- ---- a part of a row, from cell i on, where the stride does not go down
 

@@ -14,15 +14,11 @@ use Rattle.cells.specs.Cells.{binary}
 use Rattle.views.specs.declared.Stride.{Stride}
 use Rattle.views.specs.declared.View.{View}
 use Rattle.views.specs.Views.{step, cellsOf, place}
-use Rattle.validity.specs.Flags.{mixFlag, three}
+use Rattle.validity.specs.Flags.{mixFlag, clearedValue, three}
 
 -- the number from three, whatever their flags: what WHERE chooses, or what a binary operation gives
 unfoldable pub plainValue : ℕ → ℤ → ℤ → ℤ → ℤ
 plainValue op x y z = cond (eqb op WHERE) (cond (sameZ x (pos 0)) z y) (binary op x y)
-
--- a number under a flag: 0 in a gap
-abbrev pub clearedValue : ℕ → ℤ → ℤ
-clearedValue f x = cond (eqb f 1) x (pos 0)
 
 -- the number of the result, from three cells. The side that WHERE chose brings its own number, 0 in a gap; so WHERE asks for its condition's flag,
 -- a binary operation for the result's.

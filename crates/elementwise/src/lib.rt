@@ -11,7 +11,7 @@ ghost use Rattle.views.specs.Views.{strideOf, step, span, rowsOf, reach};
 ghost use Rattle.views.specs.Numbers.{SmallBefore};
 ghost use Rattle.cells.specs.Cells.{binary};
 ghost use Rattle.validity.specs.Flags.{mixFlag, three, mixedFlags};
-ghost use Rattle.elementwise.specs.Mixing.{plainValue, clearedValue, mixValue, plainAt, mixedValues, SmallAlong};
+ghost use Rattle.elementwise.specs.Mixing.{plainValue, mixValue, plainAt, mixedValues, SmallAlong};
 use plan::Row;
 use views::Stride;
 use views::View;
@@ -181,55 +181,6 @@ fn plain_row(
     row_values(values, op, n, p, a, q, b, u, d, to);
 }
 
-// Whether n cells are all known.
-fn all_known(flags: &[u8], n: usize, p: usize) -> bool
-    requires { ⌜ p + n ≤ length (now flags) ⌝ }
-    ensures { λ r. ⌜ (r ≡ true → (j : ℕ) → j < n → getD (now (flags .entry)) (p + j) 0 ≡ 1) ⌝ }
-{
-    let mut all = true;
-    let mut i = 0;
-    while i < n {
-        all = all & (flags[p + i] == 1);
-        i += 1;
-    }
-    all
-}
-
-// A number under a flag.
-fn cleared(f: u8, x: i64) -> i64
-    ensures { λ r. ⌜ r ≡ clearedValue f x ⌝ }
-{
-    if f == 1 { x } else { 0 }
-}
-
-// The numbers of a row made 0 where the flags from place p on are gaps.
-fn clear_gaps(values: &mut [i64], flags: &[u8], n: usize, p: usize, a: Stride, to: usize)
-    requires { ⌜ (p + span n a < length (now flags)) × (to + n ≤ length (now values)) ⌝ }
-    ensures { λ _. ⌜ now (values .exit) ≡ store (now (values .entry)) to n (λ (j : ℕ). clearedValue (getD (now (flags .entry)) (p + step n a j) 0) (getD (now (values .entry)) (to + j) (pos 0))) ⌝ }
-{
-    let mut i = 0;
-    while i < n {
-        let k = p + views::step_at(n, a, i);
-        let x = values[to + i];
-        values[to + i] = cleared(flags[k], x);
-        i += 1;
-    }
-}
-
-// The same; where no gap is there is nothing to do.
-fn clear_row(values: &mut [i64], flags: &[u8], n: usize, p: usize, a: Stride, to: usize)
-    requires { ⌜ (0 < n) × (p + span n a < length (now flags)) × (to + n ≤ length (now values)) ⌝ }
-    ensures { λ _. ⌜ now (values .exit) ≡ store (now (values .entry)) to n (λ (j : ℕ). clearedValue (getD (now (flags .entry)) (p + step n a j) 0) (getD (now (values .entry)) (to + j) (pos 0))) ⌝ }
-{
-    if !views::is_stride(a, 1, 0) {
-        clear_gaps(values, flags, n, p, a, to);
-        return;
-    }
-    if !all_known(flags, n, p) {
-        clear_gaps(values, flags, n, p, Stride { up: 1, down: 0 }, to);
-    }
-}
-
 // The cells of a row.
 fn mix_row(
     values: &mut [i64],
@@ -244,16 +195,16 @@ fn mix_row(
     d: Stride,
     to: usize,
 )
-    requires { ⌜ (0 < n) × (9 ≤ op) × (op < 19) × (p + span n a < to) × (q + span n b < to) × (u + span n d < to) × (to + n ≤ length (now values)) × (to + n ≤ length (now flags)) × SmallAlong (now values) n p a × SmallAlong (now values) n q b ⌝ }
+    requires { ⌜ (9 ≤ op) × (op < 19) × (p + span n a < to) × (q + span n b < to) × (u + span n d < to) × (to + n ≤ length (now values)) × (to + n ≤ length (now flags)) × SmallAlong (now values) n p a × SmallAlong (now values) n q b ⌝ }
     ensures { λ _. ⌜ (now (values .exit) ≡ store (now (values .entry)) to n (λ (j : ℕ). three (mixValue op) (now (values .entry)) (now (flags .entry)) (p + step n a j) (q + step n b j) (u + step n d j))) × (now (flags .exit) ≡ store (now (flags .entry)) to n (λ (j : ℕ). three (mixFlag op) (now (values .entry)) (now (flags .entry)) (p + step n a j) (q + step n b j) (u + step n d j))) ⌝ }
 {
     validity::mix_row_flags(values, flags, op, n, p, a, q, b, u, d, to);
     plain_row(values, op, n, p, a, q, b, u, d, to);
     if op == 18 {
-        clear_row(values, flags, n, p, a, to);
+        validity::clear_row(values, flags, n, p, a, to);
         return;
     }
-    clear_row(values, flags, n, to, Stride { up: 1, down: 0 }, to);
+    validity::clear_own(values, flags, n, to);
 }
 
 // None of three strides goes down.
@@ -313,7 +264,7 @@ fn mix_long_row(
     d: Stride,
     to: usize,
 )
-    requires { ⌜ (0 < n) × (9 ≤ op) × (op < 19) × (p + span n a < to) × (q + span n b < to) × (u + span n d < to) × (to + n ≤ length (now values)) × (to + n ≤ length (now flags)) × SmallAlong (now values) n p a × SmallAlong (now values) n q b ⌝ }
+    requires { ⌜ (9 ≤ op) × (op < 19) × (p + span n a < to) × (q + span n b < to) × (u + span n d < to) × (to + n ≤ length (now values)) × (to + n ≤ length (now flags)) × SmallAlong (now values) n p a × SmallAlong (now values) n q b ⌝ }
     ensures { λ _. ⌜ (now (values .exit) ≡ store (now (values .entry)) to n (λ (j : ℕ). three (mixValue op) (now (values .entry)) (now (flags .entry)) (p + step n a j) (q + step n b j) (u + step n d j))) × (now (flags .exit) ≡ store (now (flags .entry)) to n (λ (j : ℕ). three (mixFlag op) (now (values .entry)) (now (flags .entry)) (p + step n a j) (q + step n b j) (u + step n d j))) ⌝ }
 {
     if rising(a, b, d) {
@@ -335,7 +286,7 @@ pub fn mix(
     rows: usize,
     start: usize,
 )
-    requires { ⌜ (9 ≤ op) × (op < 19) × (0 < g .r3) × (rows ≡ rowsOf g) × (reach g a < start) × (reach g b < start) × (reach g d < start) × (start + rows * g .r3 ≤ length (now values)) × (start + rows * g .r3 ≤ length (now flags)) × SmallBefore (now values) start ⌝ }
+    requires { ⌜ (9 ≤ op) × (op < 19) × (rows ≡ rowsOf g) × (reach g a < start) × (reach g b < start) × (reach g d < start) × (start + rows * g .r3 ≤ length (now values)) × (start + rows * g .r3 ≤ length (now flags)) × SmallBefore (now values) start ⌝ }
     ensures { λ _. ⌜ (now (values .exit) ≡ mixedValues op (now (values .entry)) (now (flags .entry)) g a b d start) × (now (flags .exit) ≡ mixedFlags op (now (values .entry)) (now (flags .entry)) g a b d start) ⌝ }
 {
     let n = g.r3;

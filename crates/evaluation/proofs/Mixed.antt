@@ -11,7 +11,7 @@ use Rattle.laws.specs.Integers.{sameZ}
 use Rattle.laws.specs.Lists.{among}
 use Rattle.laws.specs.Numbering.{count}
 use Rattle.laws.specs.Store.{store}
-use Rattle.laws.proofs.Store.{store-same, store-read}
+use Rattle.laws.proofs.Store.{store-same}
 use Rattle.plan.specs.declared.Node.{Node}
 use Rattle.plan.specs.declared.Row.{Row}
 use Rattle.plan.specs.Operations.{WHERE, binaries}

@@ -2,7 +2,7 @@
 ghost use mathlib.Core.Path.{_≡_};
 ghost use mathlib.Core.Bool.{true, cond};
 ghost use mathlib.Core.List.{List, []};
-ghost use Prim.Native.Nat.{ℕ, _+_, _^_, _≤_, _<_};
+ghost use Prim.Native.Nat.{ℕ, _+_, _≤_, _<_};
 ghost use Rattle.laws.specs.Lists.{among};
 ghost use Rattle.laws.specs.Numbering.{count};
 ghost use Rattle.shapes.specs.Rules.{resultExtents, gatheredExtents};

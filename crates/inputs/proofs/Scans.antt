@@ -1,19 +1,18 @@
 -- 15 and 16 at one position, at the positions of one node, and at all.
 use Prim.Native.Nat.{ℕ, zero, suc, _+_, _^_, _<_, _≤_}
 use mathlib.Core.Path.{_≡_, refl, _∙_}
-use mathlib.Core.Bool.{Bool, true, false, _&&_}
-use mathlib.Core.Logic.{⊎-elim}
+use mathlib.Core.Bool.{true, false, _&&_}
 use mathlib.Core.List.{List}
-use native.Mathlib.Nat.{add-zero, add-suc, eq-or-lt-of-le}
+use native.Mathlib.Nat.{add-zero, add-suc}
 use native.Mathlib.Numerals.{add-one}
 use native.Mathlib.Omega.{arith}
-use borrow.Author.Tests.{eq-eqb, ne-eqb, lt-leb, eqb-true, eqb-false, leb-true}
+use borrow.Author.Tests.{eq-eqb, ne-eqb, lt-leb, eqb-true, eqb-false}
 use lib.Bits.{bitOr}
-use lib.Dec.{eqb, leb}
+use lib.Dec.{eqb}
 use lib.IntN.{ℤ, pos}
 use lib.ListN.{length, getD}
 use lib.Signed.{leZ}
-use Rattle.laws.proofs.Booleans.{bool-cases, and-true}
+use Rattle.laws.proofs.Booleans.{bool-cases}
 use Rattle.plan.specs.declared.Interval.{Interval}
 use Rattle.plan.specs.Types.{between, holds}
 use Rattle.plan.specs.Answers.{Outcome, accepted, refuse, inTurn}
@@ -97,13 +96,6 @@ module _ (limits : Interval) (values : List ℤ) (flags : List ℕ) (from : ℕ)
       → (here < 2 ^ 63 → testInput limits (getD values (from + i) (pos 0)) (getD flags (from + i) 0) (from + i) ≡ accepted tt) → bitOr found here < 2 ^ 63
       → testPart limits values flags from (i + 1) ≡ accepted tt
   part-good found here i f g e = let both = or-below found here (2 ^ 63) e in part-more i 0 (from + i) (f (both .0)) (g (both .1)) refl
-
--- one flag more that is 0 or 1
-pub flags-more : (flags : List ℕ) (from i : ℕ) (all : Bool) → (all ≡ true → (k : ℕ) → k < i → getD flags (from + k) 0 ≤ 1)
-    → (all && leb (getD flags (from + i) 0) 1) ≡ true → (k : ℕ) → k < i + 1 → getD flags (from + k) 0 ≤ 1
-flags-more flags from i all f e k h =
-    let both = and-true all (leb (getD flags (from + i) 0) 1) e in
-    ⊎-elim (λ (p : k ≡ i). rw p (leb-true (getD flags (from + i) 0) 1 (both .1))) (λ (p : k < i). f (both .0) k p) (eq-or-lt-of-le (omega arith))
 
 -- ---- all positions
 

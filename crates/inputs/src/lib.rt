@@ -109,20 +109,6 @@ fn miss(flag: u8, value: i64, low: i64, high: i64) -> u64
     left | std::num::wrapping_sub_u64(width, left)
 }
 
-// n flags are 0 or 1.
-fn flags_good(flags: &[u8], from: usize, n: usize) -> bool
-    requires { ⌜ from + n ≤ length (now flags) ⌝ }
-    ensures { λ r. ⌜ (r ≡ true → (k : ℕ) → k < n → getD (now (flags .entry)) (from + k) 0 ≤ 1) ⌝ }
-{
-    let mut all = true;
-    let mut i = 0;
-    while i < n {
-        all = all & (flags[from + i] <= 1);
-        i += 1;
-    }
-    all
-}
-
 // Nothing is wrong at n positions of one PARAM whose flags are 0 or 1.
 fn values_good(values: &[i64], flags: &[u8], from: usize, n: usize, low: i64, high: i64) -> bool
     requires { ⌜ (from + n ≤ length (now values)) × (from + n ≤ length (now flags)) × (low ≤ℤ high) × ((k : ℕ) → k < n → getD (now flags) (from + k) 0 ≤ 1) ⌝ }
@@ -147,7 +133,7 @@ fn all_good(values: &[i64], flags: &[u8], from: usize, n: usize, low: i64, high:
     if high < low {
         return false;
     }
-    if flags_good(flags, from, n) {
+    if validity::flags_from(flags, n, from, 0) {
         return values_good(values, flags, from, n, low, high);
     }
     false

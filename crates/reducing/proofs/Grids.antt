@@ -1,20 +1,19 @@
 -- Folds over the rows of a result's grid, and over the rows of what is gathered.
 use Prim.Native.Nat.{ℕ, _+_, _*_, _≤_, _<_, min}
 use mathlib.Core.Path.{_≡_, refl}
-use mathlib.Core.Bool.{cond}
 use mathlib.Core.List.{List}
 use native.Mathlib.Omega.{arith}
-use lib.Dec.{eqb}
 use lib.IntN.{ℤ, pos}
 use lib.ListN.{length, getD}
 use Rattle.laws.specs.Store.{store}
-use Rattle.laws.proofs.Store.{store-again, store-hit}
 use Rattle.plan.specs.declared.Row.{Row}
 use Rattle.views.specs.declared.Stride.{Stride}
 use Rattle.views.specs.declared.View.{View}
 use Rattle.views.specs.Views.{step, span, rowsOf, cellsOf, rowPlace, place, rowReach, reach}
 use Rattle.views.proofs.RowPlaces.{place-row, row-below, cell-below}
 use Rattle.views.proofs.Steps.{step-le, place-le}
+use Rattle.validity.specs.Flags.{clearedValue}
+use Rattle.validity.proofs.Clearing.{both-cleared}
 use Rattle.reducing.specs.Folding.{combineOf, first, reducedFlag, reducedFlags, reducedValues}
 use Rattle.reducing.specs.Gathering.{taken, runs, Room}
 use Rattle.views.specs.Numbers.{SmallBefore}
@@ -60,14 +59,6 @@ module _ {A : Type 0} (f : A → A → A) (d : A) (l m m′ : List A) (k : Row) 
 
 -- ---- the whole
 
--- numbers masked by flags
-masked : (l m m′ : List ℤ) (fs fs′ : List ℕ) (start n : ℕ) (x : ℕ → ℤ) (b : ℕ → ℕ) → start + n ≤ length l → start + n ≤ length fs
-    → m ≡ store l start n x → fs′ ≡ store fs start n b
-    → m′ ≡ store m start n (λ (e : ℕ). cond (eqb (getD fs′ (start + e) 0) 1) (getD m (start + e) (pos 0)) (pos 0))
-    → m′ ≡ store l start n (λ (e : ℕ). cond (eqb (b e) 1) (x e) (pos 0))
-masked l m m′ fs fs′ start n x b fits fits′ e q e′ =
-    store-again l m m′ start n x _ _ e e′ (λ c h. rw (store-hit l m start n x c (pos 0) e h fits, store-hit fs fs′ start n b c 0 q h fits′))
-
 module _ (k : Row) (kept : View) (g : Row) (gathered : View) (start rows blocks : ℕ) (near : reach k kept + reach g gathered < start) (r : rows ≡ rowsOf k)
     (b : blocks ≡ rowsOf g) where
   far-from : (e i : ℕ) → e < cellsOf k → i < cellsOf g → place k kept e + place g gathered i < start
@@ -92,8 +83,8 @@ module _ (k : Row) (kept : View) (g : Row) (gathered : View) (start rows blocks 
       → m ≡ store vs start (cellsOf k) (λ (e : ℕ). first how vs (place k kept e))
       → m′ ≡ taken (combineOf how) (pos 0) m start (rows * k .r3) (λ (e i : ℕ). place k kept e + place g gathered i) (blocks * g .r3)
       → fs′ ≡ reducedFlags fs k kept g gathered start
-      → end ≡ store m′ start (rows * k .r3) (λ (e : ℕ). cond (eqb (getD fs′ (start + e) 0) 1) (getD m′ (start + e) (pos 0)) (pos 0))
+      → end ≡ store m′ start (rows * k .r3) (λ (e : ℕ). clearedValue (getD fs′ (start + e) 0) (getD m′ (start + e) (pos 0)))
       → end ≡ reducedValues how vs fs k kept g gathered start
   values-reduced how vs m m′ end fs fs′ fits fits′ e e′ q e″ =
-      masked vs m′ end fs fs′ start (cellsOf k) _ (reducedFlag fs k kept g gathered) (rw r at fits) (rw r at fits′)
+      both-cleared vs m′ end fs fs′ start (cellsOf k) _ (reducedFlag fs k kept g gathered) (rw r at fits) (rw r at fits′)
       (taken-after (combineOf how) (pos 0) vs m m′ start (cellsOf k) (cellsOf g) _ _ (rw r at fits) e (rw (r, b) at e′) far-from) q (rw r at e″)

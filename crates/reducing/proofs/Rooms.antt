@@ -4,7 +4,7 @@ use mathlib.Core.Path.{_≡_, _∙_}
 use mathlib.Core.List.{List}
 use native.Mathlib.Omega.{arith}
 use native.Mathlib.Nat.{add-assoc}
-use mathlib.Core.Bool.{true, false, cond}
+use mathlib.Core.Bool.{true, false}
 use borrow.Author.Tests.{ne-eqb}
 use lib.Dec.{eqb}
 use lib.Signed.{ltZ}
@@ -154,8 +154,3 @@ begin-room how l m start n k at fits e small near few c h =
     rw (store-hit l m start n _ c (pos 0) e h fits)
     (cond-both (λ (z : ℤ). natAbs z + k * 2147483648 < 2 ^ 63) (eqb how 0) _ _
     (λ _. omega arith) (λ _. omega (arith, small-abs (small (at c) (near c h)))))
-
--- a number masked by its flag, as the code reads both
-pub mask-turn : (l m : List ℤ) (s i flag : ℕ) (g : ℕ → ℤ) {x y : ℤ} → m ≡ store l s i g → SFits w64 (getD m (s + i) (pos 0)) → y ≡ x
-    → x ≡ cond (eqb flag 1) (R (getD m (s + i) (pos 0))) (pos 0) → y ≡ cond (eqb flag 1) (getD l (s + i) (pos 0)) (pos 0)
-mask-turn l m s i flag g e fits end r = end ∙ r ∙ rw (R-is fits, store-ahead l m s i g (s + i) (pos 0) e (omega arith))

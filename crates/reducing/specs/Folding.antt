@@ -10,6 +10,7 @@ use Rattle.laws.specs.Store.{store}
 use Rattle.plan.specs.declared.Row.{Row}
 use Rattle.views.specs.declared.View.{View}
 use Rattle.views.specs.Views.{cellsOf, place}
+use Rattle.validity.specs.Flags.{clearedValue}
 
 -- z with v 0, .., v (m - 1) taken in one after another
 unfoldable pub foldFrom : {A : Type 0} → (A → A → A) → A → (ℕ → A) → ℕ → A
@@ -35,9 +36,8 @@ reducedFlag fs k kept g gathered e =
 
 abbrev pub reducedValue : ℕ → List ℤ → List ℕ → Row → View → Row → View → ℕ → ℤ
 reducedValue how vs fs k kept g gathered e =
-    cond (eqb (reducedFlag fs k kept g gathered e) 1)
+    clearedValue (reducedFlag fs k kept g gathered e)
     (foldFrom (combineOf how) (first how vs (place k kept e)) (λ (i : ℕ). getD vs (source k kept g gathered e i) (pos 0)) (cellsOf g))
-    (pos 0)
 
 abbrev pub reducedFlags : List ℕ → Row → View → Row → View → ℕ → List ℕ
 reducedFlags fs k kept g gathered start = store fs start (cellsOf k) (reducedFlag fs k kept g gathered)

@@ -1,9 +1,7 @@
 // REDUCE: sums and maxima over the gathered axes. Numbers and flags are folded apart, each buffer in its own loops; then the numbers of gaps
 // become 0.
 ghost use mathlib.Core.Path.{_≡_};
-ghost use mathlib.Core.Bool.{cond};
 ghost use Prim.Native.Nat.{ℕ, _+_, _*_, _^_, _≤_, _<_, min};
-ghost use lib.Dec.{eqb};
 ghost use lib.IntN.{pos, natAbs};
 ghost use lib.ListN.{length, getD};
 ghost use Rattle.laws.specs.Store.{store};
@@ -329,13 +327,6 @@ fn fold_blocks_flags(
     }
 }
 
-// A number that is known, and the 0 of a gap.
-fn known(flag: u8, x: i64) -> i64
-    ensures { λ r. ⌜ r ≡ cond (eqb flag 1) x (pos 0) ⌝ }
-{
-    if flag == 1 { x } else { 0 }
-}
-
 // What a sum and a maximum begin with.
 fn begin_values(values: &mut [i64], how: usize, k: Row, kept: View, rows: usize, start: usize)
     requires { ⌜ (rows ≡ rowsOf k) × (reach k kept < start) × (start + rows * k .r3 ≤ length (now values)) ⌝ }
@@ -346,21 +337,6 @@ fn begin_values(values: &mut [i64], how: usize, k: Row, kept: View, rows: usize,
         return;
     }
     moving::move_values(values, k, kept, rows, start);
-}
-
-// The numbers of gaps become 0.
-fn mask_values(values: &mut [i64], flags: &[u8], n: usize, start: usize)
-    requires { ⌜ (start + n ≤ length (now values)) × (start + n ≤ length (now flags)) ⌝ }
-    ensures { λ _. ⌜ now (values .exit) ≡ store (now (values .entry)) start n (λ (e : ℕ). cond (eqb (getD (now (flags .entry)) (start + e) 0) 1) (getD (now (values .entry)) (start + e) (pos 0)) (pos 0)) ⌝ }
-{
-    let mut i = 0;
-    while i < n {
-        let k = start + i;
-        let x = values[k];
-        let r = known(flags[k], x);
-        values[k] = r;
-        i += 1;
-    }
 }
 
 // REDUCE.
@@ -384,5 +360,5 @@ pub fn reduce(
     fold_blocks_flags(flags, k, kept, g, gathered, rows, blocks, start);
     begin_values(values, how, k, kept, rows, start);
     fold_blocks_values(values, how, k, kept, g, gathered, rows, blocks, start);
-    mask_values(values, flags, rows * k.r3, start);
+    validity::clear_own(values, flags, rows * k.r3, start);
 }

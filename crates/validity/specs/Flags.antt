@@ -1,4 +1,4 @@
--- The flags that a binary operation and WHERE leave in their buffer: 1 known, 0 a gap.
+-- The flags that a binary operation and WHERE leave in their buffer, 1 known, 0 a gap; and numbers under flags.
 use Prim.Native.Nat.{ℕ}
 use mathlib.Core.Bool.{_&&_, cond}
 use mathlib.Core.List.{List}
@@ -26,6 +26,10 @@ sideFlag s f g h = cond (eqb f 1) (cond (eqb s 0) h g) 0
 -- from the side at place t and the flags at three places
 abbrev pub chosenFlag : List ℕ → ℕ → ℕ → ℕ → ℕ → ℕ
 chosenFlag fs t p q u = sideFlag (getD fs t 0) (getD fs p 0) (getD fs q 0) (getD fs u 0)
+
+-- a number under a flag: 0 in a gap
+abbrev pub clearedValue : ℕ → ℤ → ℤ
+clearedValue f x = cond (eqb f 1) x (pos 0)
 
 -- from the cells at three places
 abbrev pub three : {C : Type 0} → (ℤ → ℕ → ℤ → ℕ → ℤ → ℕ → C) → List ℤ → List ℕ → ℕ → ℕ → ℕ → C

@@ -1,4 +1,4 @@
-// The flags of binary operations and WHERE, a row at a time, from three views.
+// The flags of binary operations and WHERE, a row at a time, from three views; and the numbers of a row under its flags.
 ghost use mathlib.Core.Path.{_≡_};
 ghost use mathlib.Core.Bool.{true};
 ghost use Prim.Native.Nat.{ℕ, _+_, _≤_, _<_};
@@ -6,7 +6,7 @@ ghost use lib.IntN.{ℤ, pos};
 ghost use lib.ListN.{length, getD};
 ghost use Rattle.laws.specs.Store.{store};
 ghost use Rattle.views.specs.Views.{strideOf, step, span};
-ghost use Rattle.validity.specs.Flags.{mixFlag, sideOf, sideFlag, chosenFlag, three};
+ghost use Rattle.validity.specs.Flags.{mixFlag, sideOf, sideFlag, chosenFlag, clearedValue, three};
 use views::Stride;
 
 // The first view steps by x and the other two by y.
@@ -250,4 +250,64 @@ pub fn mix_row_flags(
         return;
     }
     where_flags(values, flags, n, p, a, q, b, u, d, to);
+}
+
+// Whether n flags are from `low` to 1.
+pub fn flags_from(flags: &[u8], n: usize, p: usize, low: u8) -> bool
+    requires { ⌜ p + n ≤ length (now flags) ⌝ }
+    ensures { λ r. ⌜ (r ≡ true → (j : ℕ) → j < n → (low ≤ getD (now (flags .entry)) (p + j) 0) × (getD (now (flags .entry)) (p + j) 0 ≤ 1)) ⌝ }
+{
+    let mut all = true;
+    let mut i = 0;
+    while i < n {
+        let f = flags[p + i];
+        all = all & ((low <= f) & (f <= 1));
+        i += 1;
+    }
+    all
+}
+
+// A number under a flag.
+fn cleared(f: u8, x: i64) -> i64
+    ensures { λ r. ⌜ r ≡ clearedValue f x ⌝ }
+{
+    if f == 1 { x } else { 0 }
+}
+
+// The numbers of a row made 0 where the flags from place p on are gaps.
+fn clear_gaps(values: &mut [i64], flags: &[u8], n: usize, p: usize, a: Stride, to: usize)
+    requires { ⌜ (0 < n → p + span n a < length (now flags)) × (to + n ≤ length (now values)) ⌝ }
+    ensures { λ _. ⌜ now (values .exit) ≡ store (now (values .entry)) to n (λ (j : ℕ). clearedValue (getD (now (flags .entry)) (p + step n a j) 0) (getD (now (values .entry)) (to + j) (pos 0))) ⌝ }
+{
+    let mut i = 0;
+    while i < n {
+        let k = p + views::step_at(n, a, i);
+        let x = values[to + i];
+        values[to + i] = cleared(flags[k], x);
+        i += 1;
+    }
+}
+
+// The same; where no gap is there is nothing to do.
+pub fn clear_row(values: &mut [i64], flags: &[u8], n: usize, p: usize, a: Stride, to: usize)
+    requires { ⌜ (p + span n a < length (now flags)) × (to + n ≤ length (now values)) ⌝ }
+    ensures { λ _. ⌜ now (values .exit) ≡ store (now (values .entry)) to n (λ (j : ℕ). clearedValue (getD (now (flags .entry)) (p + step n a j) 0) (getD (now (values .entry)) (to + j) (pos 0))) ⌝ }
+{
+    if !views::is_stride(a, 1, 0) {
+        clear_gaps(values, flags, n, p, a, to);
+        return;
+    }
+    if !flags_from(flags, n, p, 1) {
+        clear_gaps(values, flags, n, p, Stride { up: 1, down: 0 }, to);
+    }
+}
+
+// The same by the row's own flags.
+pub fn clear_own(values: &mut [i64], flags: &[u8], n: usize, to: usize)
+    requires { ⌜ (to + n ≤ length (now values)) × (to + n ≤ length (now flags)) ⌝ }
+    ensures { λ _. ⌜ now (values .exit) ≡ store (now (values .entry)) to n (λ (j : ℕ). clearedValue (getD (now (flags .entry)) (to + j) 0) (getD (now (values .entry)) (to + j) (pos 0))) ⌝ }
+{
+    if !flags_from(flags, n, to, 1) {
+        clear_gaps(values, flags, n, to, Stride { up: 1, down: 0 }, to);
+    }
 }

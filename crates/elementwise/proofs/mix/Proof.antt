@@ -34,17 +34,17 @@ loop-holds c = (search needs, rw zero-mul (search needs), refl, refl, rw zero-mu
 row-place-requires : tie.Need-row-place-requires Inv-loop μ-loop
 row-place-requires c κs =
     let s = c .before .before .before in
-    (omega (arith, c .loop-test .taken, s .pre .3), rows-below (s .args .g) (s .args .a) (omega (arith, s .pre, s .good .0)))
+    (omega (arith, c .loop-test .taken, s .pre .2), rows-below (s .args .g) (s .args .a) (omega (arith, s .pre, s .good .0)))
 
 row-place-requires-2 : tie.Need-row-place-requires-2 Inv-loop μ-loop
 row-place-requires-2 c κs =
     let s = c .before .before .before .before in
-    (omega (arith, c .before .loop-test .taken, s .pre .3), rows-below (s .args .g) (s .args .b) (omega (arith, s .pre, s .good .0)))
+    (omega (arith, c .before .loop-test .taken, s .pre .2), rows-below (s .args .g) (s .args .b) (omega (arith, s .pre, s .good .0)))
 
 row-place-requires-3 : tie.Need-row-place-requires-3 Inv-loop μ-loop
 row-place-requires-3 c κs =
     let s = c .before .before .before .before .before in
-    (omega (arith, c .before .before .loop-test .taken, s .pre .3), rows-below (s .args .g) (s .args .d) (omega (arith, s .pre, s .good .0)))
+    (omega (arith, c .before .before .loop-test .taken, s .pre .2), rows-below (s .args .g) (s .args .d) (omega (arith, s .pre, s .good .0)))
 
 mix-long-row-requires : tie.Need-mix-long-row-requires Inv-loop μ-loop
 mix-long-row-requires c κs =
@@ -55,19 +55,18 @@ mix-long-row-requires c κs =
     let a = s .args in
     let fits = block-fits (i .i) (a .rows) (a .g .r3) (p5 .loop-test .taken) in
     let v = kept (pos 0) _ _ _ _ _ (i .inv .4) in
-    let few : i .i < rowsOf (a .g) = omega (arith, s .pre .3, p5 .loop-test .taken) in
+    let few : i .i < rowsOf (a .g) = omega (arith, s .pre .2, p5 .loop-test .taken) in
     let first = c .before .before .before .before .row-place .ensures in
     let second = c .before .before .before .row-place2 .ensures in (
-      s .pre .2,
       s .pre .0,
       s .pre .1,
-      omega (arith, i .inv, row-below (a .g) (a .a) (s .pre .4) (first .1)),
-      omega (arith, i .inv, row-below (a .g) (a .b) (s .pre .5) (second .1)),
-      omega (arith, i .inv, row-below (a .g) (a .d) (s .pre .6) (c .before .before .row-place3 .ensures .1)),
+      omega (arith, i .inv, row-below (a .g) (a .a) (s .pre .3) (first .1)),
+      omega (arith, i .inv, row-below (a .g) (a .b) (s .pre .4) (second .1)),
+      omega (arith, i .inv, row-below (a .g) (a .d) (s .pre .5) (c .before .before .row-place3 .ensures .1)),
       omega (arith, i .inv, s .pre, fits),
       omega (arith, i .inv, s .pre, fits),
-      small-row v (a .g) (a .a) (s .pre .9) (s .pre .4) few (first .0),
-      small-row v (a .g) (a .b) (s .pre .9) (s .pre .5) few (second .0),
+      small-row v (a .g) (a .a) (s .pre .8) (s .pre .3) few (first .0),
+      small-row v (a .g) (a .b) (s .pre .8) (s .pre .4) few (second .0),
     )
 
 add-to : tie.Need-add-to Inv-loop μ-loop
@@ -96,13 +95,13 @@ loop-again c =
     let h = c .before .before .before .mix-long-row .ensures in
     let v = kept (pos 0) _ _ _ _ _ (i .inv .4) in
     let f = kept 0 _ _ _ _ _ (i .inv .5) in
-    let few : i .i < rowsOf (a .g) = omega (arith, s .pre .3, p9 .loop-test .taken) in (
+    let few : i .i < rowsOf (a .g) = omega (arith, s .pre .2, p9 .loop-test .taken) in (
       omega (arith, p9 .loop-test .taken),
       rw next-block (omega (arith, i .inv)),
       ap length (h .0) ∙ length-store _ _ _ _ ∙ i .inv .2,
       ap length (h .1) ∙ length-store _ _ _ _ ∙ i .inv .3,
-      mix-turn v f (mixValue (a .op)) (a .g) (a .a) (a .b) (a .d) _ _ _ (i .i) (s .pre .4) (s .pre .5) (s .pre .6) few (i .inv .4) (h .0) (i .inv .1) (first .0) (second .0) (third .0),
-      mix-turn v f (mixFlag (a .op)) (a .g) (a .a) (a .b) (a .d) _ _ _ (i .i) (s .pre .4) (s .pre .5) (s .pre .6) few (i .inv .5) (h .1) (i .inv .1) (first .0) (second .0) (third .0),
+      mix-turn v f (mixValue (a .op)) (a .g) (a .a) (a .b) (a .d) _ _ _ (i .i) (s .pre .3) (s .pre .4) (s .pre .5) few (i .inv .4) (h .0) (i .inv .1) (first .0) (second .0) (third .0),
+      mix-turn v f (mixFlag (a .op)) (a .g) (a .a) (a .b) (a .d) _ _ _ (i .i) (s .pre .3) (s .pre .4) (s .pre .5) few (i .inv .5) (h .1) (i .inv .1) (first .0) (second .0) (third .0),
     )
 
 same-length : tie.Need-same-length Inv-loop μ-loop
@@ -116,7 +115,7 @@ returns c =
     let v = c .before .loop .inv in
     let s = c .before .before .before in
     let e : c .before .loop .i ≡ s .args .rows = omega (arith, v, c .loop-test .left) in
-    (rw (← s .pre .3, ← e) (v .4), rw (← s .pre .3, ← e) (v .5))
+    (rw (← s .pre .2, ← e) (v .4), rw (← s .pre .2, ← e) (v .5))
 
 pub mix-spec : {M : Type 1} → statement M
 mix-spec =

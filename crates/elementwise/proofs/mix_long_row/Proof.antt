@@ -9,7 +9,7 @@ mix-parts-requires : tie.Need-mix-parts-requires
 mix-parts-requires c κs =
     let r = c .before .before .before .rising .ensures (c .before .before .if1 .taken) in
     let p = c .before .before .before .before .before .pre in
-    (r .0, r .1, r .2, p .1, p .2, p .3, p .4, p .5, p .6, p .7, p .8, p .9)
+    (r .0, r .1, r .2, p .0, p .1, p .2, p .3, p .4, p .5, p .6, p .7, p .8)
 
 same-length : tie.Need-same-length
 same-length c = search needs

@@ -87,7 +87,6 @@ mix-row-requires c κs =
     let fits : i + m .result ≤ a .n = omega (arith, m .ensures, c .before .before .before .before .before .before .loop-test .taken) in
     let some : 0 < m .result = m .ensures .0 in
     let v = kept (pos 0) _ _ _ _ _ (l .loop .inv .3) in (
-      some,
       p .3,
       p .4,
       part-below (a .a) (p .0) (a .n) (m .result) i fits (a .p) (a .to) some (p .5),

@@ -1,5 +1,4 @@
 use native.Mathlib.Omega.{arith}
-use Rattle.views.proofs.Axiswise.{fourth-pos}
 use Rattle.evaluation.proofs.Mixed.{mixed-both}
 use borrow.Author.Needs.{needs}
 use Rattle.evaluation.proofs.mix_cells.Statement.{statement}
@@ -14,11 +13,10 @@ rows-requires c κs = let p = c .before .before in let w = c .settle .ensures in
 mix-requires : tie.Need-mix-requires
 mix-requires c κs =
     let p = c .before .before .before .before .before in
-    let t = c .before .before .before .settle in
-    let w = t .ensures in
+    let w = c .before .before .before .settle .ensures in
     let n = c .before .before .rows .ensures in
     let near = p .pre .2 in
-    (p .pre .0, p .pre .1, fourth-pos (t .result .grid) 0 (omega (arith, w .cells, p .pre .3)), n, omega (arith, w .a .far, near .a), omega (arith, w .b .far, near .b), omega (arith, w .d .far, near .d), rw n (omega (arith, w .cells, p .pre .4)), rw n (omega (arith, w .cells, p .pre .5)), p .pre .6)
+    (p .pre .0, p .pre .1, n, omega (arith, w .a .far, near .a), omega (arith, w .b .far, near .b), omega (arith, w .d .far, near .d), rw n (omega (arith, w .cells, p .pre .4)), rw n (omega (arith, w .cells, p .pre .5)), p .pre .6)
 
 same-length : tie.Need-same-length
 same-length c = search needs

@@ -9,13 +9,13 @@ use Rattle.inputs.proofs.all_good.Tie as tie
 returns : tie.Need-returns
 returns c = λ t. absurd (false≢true t)
 
-flags-good-requires : tie.Need-flags-good-requires
-flags-good-requires c κs = search needs
+flags-from-requires : tie.Need-flags-from-requires
+flags-from-requires c κs = search needs
 
 values-good-requires : tie.Need-values-good-requires
 values-good-requires c κs =
     let a = c .before .before .before .before .args in
-    (search needs, search needs, of-le (ltZ-false (R (a .high)) (R (a .low)) (c .before .before .if1 .left)), c .before .flags-good .ensures (c .if2 .taken))
+    (search needs, search needs, of-le (ltZ-false (R (a .high)) (R (a .low)) (c .before .before .if1 .left)), λ k h. c .before .flags-from .ensures (c .if2 .taken) k h .1)
 
 returns-2 : tie.Need-returns-2
 returns-2 c =
@@ -28,4 +28,4 @@ returns-3 c = λ t. absurd (false≢true t)
 
 pub all-good-spec : {M : Type 1} → statement M
 all-good-spec =
-    tie.close (tie.spec returns flags-good-requires values-good-requires returns-2 returns-3)
+    tie.close (tie.spec returns flags-from-requires values-good-requires returns-2 returns-3)

@@ -21,11 +21,11 @@ fold-blocks-values-requires c κs =
     let h = begun (a .k) (a .kept) (a .g) (a .gathered) (a .start) (a .rows) (a .blocks) (p .pre .5) (p .pre .0) (p .pre .1) (a .how) _ _ (p .pre .6) (p .pre .4) (p .pre .8) begin in
     (p .pre .0, p .pre .1, p .pre .5, rw (begin, length-store) (p .pre .6), h .0, h .1)
 
-mul-mask-values : tie.Need-mul-mask-values
-mul-mask-values c = search needs
+mul-clear-own : tie.Need-mul-clear-own
+mul-clear-own c = search needs
 
-mask-values-requires : tie.Need-mask-values-requires
-mask-values-requires c κs = search needs
+clear-own-requires : tie.Need-clear-own-requires
+clear-own-requires c κs = search needs
 
 same-length : tie.Need-same-length
 same-length c = search needs
@@ -41,7 +41,7 @@ returns c =
     let p = flags .before .before .before .before .before .before .before in
     let a = p .args in
     let e = flags-reduced (a .k) (a .kept) (a .g) (a .gathered) (a .start) (a .rows) (a .blocks) (p .pre .5) (p .pre .0) (p .pre .1) _ _ _ (p .pre .7) (flags .before .before .before .before .move-flags .ensures) (flags .fold-blocks-flags .ensures) in (
-      values-reduced (a .k) (a .kept) (a .g) (a .gathered) (a .start) (a .rows) (a .blocks) (p .pre .5) (p .pre .0) (p .pre .1) (a .how) _ _ _ _ _ _ (p .pre .6) (p .pre .7) (begin .begin-values .ensures) (values .fold-blocks-values .ensures) e (c .before .mask-values .ensures),
+      values-reduced (a .k) (a .kept) (a .g) (a .gathered) (a .start) (a .rows) (a .blocks) (p .pre .5) (p .pre .0) (p .pre .1) (a .how) _ _ _ _ _ _ (p .pre .6) (p .pre .7) (begin .begin-values .ensures) (values .fold-blocks-values .ensures) e (c .before .clear-own .ensures),
       e,
     )
 
@@ -53,8 +53,8 @@ reduce-spec =
     fold-blocks-flags-requires
     begin-values-requires
     fold-blocks-values-requires
-    mul-mask-values
-    mask-values-requires
+    mul-clear-own
+    clear-own-requires
     same-length
     same-length-2
     returns)

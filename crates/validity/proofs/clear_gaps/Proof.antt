@@ -8,10 +8,10 @@ use Rattle.laws.specs.Store.{store}
 use Rattle.laws.proofs.Machine.{R-is, fit-at}
 use Rattle.laws.proofs.Store.{store-none, store-step, store-done, store-ahead}
 use Rattle.views.specs.Views.{step}
-use Rattle.elementwise.specs.Mixing.{clearedValue}
-use Rattle.elementwise.proofs.Clearing.{cleared-read}
-use Rattle.elementwise.proofs.clear_gaps.Statement.{statement}
-use Rattle.elementwise.proofs.clear_gaps.Tie as tie
+use Rattle.validity.specs.Flags.{clearedValue}
+use Rattle.validity.proofs.Clearing.{cleared-read}
+use Rattle.validity.proofs.clear_gaps.Statement.{statement}
+use Rattle.validity.proofs.clear_gaps.Tie as tie
 
 abbrev Inv-loop : tie.InvT-loop
 Inv-loop values₀ flags n p a to i₀ values i =
@@ -24,10 +24,10 @@ loop-holds : tie.Need-loop-holds Inv-loop μ-loop
 loop-holds c = (search needs, refl, store-none _ _ _)
 
 step-at-requires : tie.Need-step-at-requires Inv-loop μ-loop
-step-at-requires c κs = search needs
+step-at-requires c κs = let near = c .before .before .before .pre .0 (omega (arith, c .loop-test .taken)) in search needs
 
 add-k : tie.Need-add-k Inv-loop μ-loop
-add-k c = search needs
+add-k c = let near = c .before .before .before .before .pre .0 (omega (arith, c .before .loop-test .taken)) in search needs
 
 add-x : tie.Need-add-x Inv-loop μ-loop
 add-x c = search needs
@@ -39,7 +39,9 @@ slice-copy-out-x : tie.Need-slice-copy-out-x Inv-loop μ-loop
 slice-copy-out-x c = search needs
 
 shared-slice-read-cleared : tie.Need-shared-slice-read-cleared Inv-loop μ-loop
-shared-slice-read-cleared c = search needs
+shared-slice-read-cleared c =
+    let s = c .before .before .before .before .before .before in
+    omega (arith, c .before .before .step-at .ensures .1, s .pre .0 (omega (arith, c .before .before .before .loop-test .taken)))
 
 cleared-requires : tie.Need-cleared-requires Inv-loop μ-loop
 cleared-requires c κs = search needs

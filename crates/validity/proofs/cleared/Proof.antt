@@ -1,8 +1,8 @@
 use mathlib.Core.Path.{refl}
 use borrow.Author.Tests.{ne-eqb}
 use Rattle.laws.proofs.Machine.{R-is}
-use Rattle.elementwise.proofs.cleared.Statement.{statement}
-use Rattle.elementwise.proofs.cleared.Tie as tie
+use Rattle.validity.proofs.cleared.Statement.{statement}
+use Rattle.validity.proofs.cleared.Tie as tie
 
 returns : tie.Need-returns
 returns c = rw (c .if1 .taken, R-is (c .before .fits .x)) refl

@@ -1,9 +1,8 @@
-use native.Mathlib.Omega.{arith}
 use borrow.Author.Needs.{needs}
 use borrow.Author.Tests.{not-false}
-use Rattle.elementwise.proofs.Clearing.{unit-span, all-kept}
-use Rattle.elementwise.proofs.clear_row.Statement.{statement}
-use Rattle.elementwise.proofs.clear_row.Tie as tie
+use Rattle.validity.proofs.Clearing.{unit-room, all-kept, unit-cleared}
+use Rattle.validity.proofs.clear_row.Statement.{statement}
+use Rattle.validity.proofs.clear_row.Tie as tie
 
 is-stride-requires : tie.Need-is-stride-requires
 is-stride-requires c κs = search needs
@@ -17,16 +16,15 @@ same-length c = search needs
 returns : tie.Need-returns
 returns c = search needs
 
-all-known-requires : tie.Need-all-known-requires
-all-known-requires c κs =
+flags-from-requires : tie.Need-flags-from-requires
+flags-from-requires c κs =
     let s = c .before .before .before in
-    let h = rw (c .before .is-stride .ensures (not-false _ (c .if1 .left))) at (s .pre .1) in
-    omega (arith, unit-span (s .args .n) (s .pre .0), h)
+    unit-room (s .args .n) (s .args .p) _ (rw (c .before .is-stride .ensures (not-false _ (c .if1 .left))) at (s .pre .0))
 
 clear-gaps-requires-2 : tie.Need-clear-gaps-requires-2
 clear-gaps-requires-2 c κs =
     let s = c .before .before .before .before .before .before in
-    (rw (c .before .before .before .before .is-stride .ensures (not-false _ (c .before .before .before .if1 .left))) at (s .pre .1), s .pre .2)
+    (λ some. rw (c .before .before .before .before .is-stride .ensures (not-false _ (c .before .before .before .if1 .left))) at (s .pre .0), s .pre .1)
 
 same-length-2 : tie.Need-same-length-2
 same-length-2 c = search needs
@@ -38,8 +36,9 @@ returns-2 c =
 returns-3 : tie.Need-returns-3
 returns-3 c =
     let s = c .before .before .before .before .before in
+    let a = s .args in
     rw (c .before .before .before .is-stride .ensures (not-false _ (c .before .before .if1 .left)))
-    (all-kept (s .args .values .now) (s .args .flags .now) (s .args .n) (s .args .p) (s .args .to) (c .before .all-known .ensures (not-false _ (c .if2 .left))))
+    (unit-cleared (a .values .now) _ (a .flags .now) (a .n) (a .p) (a .to) (all-kept (a .values .now) (a .flags .now) (a .n) (a .p) (a .to) (c .before .flags-from .ensures (not-false _ (c .if2 .left)))))
 
 pub clear-row-spec : {M : Type 1} → statement M
 clear-row-spec =
@@ -49,7 +48,7 @@ clear-row-spec =
     clear-gaps-requires
     same-length
     returns
-    all-known-requires
+    flags-from-requires
     clear-gaps-requires-2
     same-length-2
     returns-2
