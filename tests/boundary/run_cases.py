@@ -189,7 +189,47 @@ def broadcast_runs(rng, wheres):
         yield from some_runs(rng, f'WHERE on {condition}, {second}, {third}', table, (rng.choice((0, 0.1, 0.4)),))
 
 
+def at_edges(rng, table):
+    """Gaps at both ends of each PARAM and about every 1024 cells of it."""
+    values, flags = inputs_of(rng, table, 0)
+    start = 0
+    for record in params_of(table):
+        count = prod(record.extents)
+        for k in range(count):
+            if (k + 1) % 1024 < 2 or k in (0, count - 1):
+                values[start + k], flags[start + k] = rng.choice(GARBAGE), 0
+        start += count
+    return values, flags
+
+
+def long_runs(rng):
+    """Every binary operation and WHERE on rows about as long as what is done at once: eight cells, 1024 cells."""
+    for n, (first, second) in product((7, 8, 9, 1024, 1025, 2049), (('n', 'n'), ('n', ''), ('', 'n'), ('2n', 'n'), ('2n', '2'))):
+        shapes = [{'': (), 'n': (n,), '2n': (2, n), '2': (2, 1)}[shape] for shape in (first, second)]
+        table = param(0, I16, -WIDE, WIDE, shapes[0]) + param(1, I16, 2, 9, shapes[1]) + param(2, I16, -WIDE, WIDE, shapes[1])
+        table += param(3, 0, 0, 1, shapes[0]) + param(4, 0, 0, 1, shapes[1])
+        table += sum((apply(op, 0, 1) for op in (ADD, MAX, IDIV, MOD, CMPLT, CMPNE)), []) + node(CAST, {1: 0, 4: I32}) + node(CAST, {1: 1, 4: I32})
+        table += apply(MUL, 11, 12) + apply(AND, 3, 4) + apply(OR, 3, 4) + apply(WHERE, 3, 1, 2) + apply(WHERE, 4, 0, 5)
+        note = f'rows of {n}: {shapes[0]} and {shapes[1]}'
+        yield from some_runs(rng, note, table, (0, 0.3) if n < 10 else (0.002,))
+        yield Run(note + ', gaps at edges', table, *at_edges(rng, table))
+
+
 # -------------------------------------------------------------- number by number
+
+def power_runs():
+    """IDIV and MOD of a row by one cell: each power of two, its neighbours, their opposites and a gap."""
+    low, high = -2 ** 31, 2 ** 31 - 1
+    row = [low, low + 1, -65537, -65536, -65535, -4, -3, -2, -1, 0, 1, 2, 3, 4, 65535, 65536, 65537, high - 1, high, None]
+    powers = [2 ** k for k in range(31)]
+    lists = powers, [*(p - 1 for p in powers[2:]), high], [p + 1 for p in powers[1:]], [*(-p for p in powers[1:]), low]
+    for op, divisors in product((IDIV, MOD), lists):
+        table = param(0, I32, low, high, (len(row),)) + param(1, I32, 1, 2 ** 30, ()) + apply(op, 0, 1)
+        for k, divisor in enumerate(divisors):
+            table += const(I32, divisor) + apply(op, 0, 2 * k + 3)
+        for gap in (4, None):
+            yield Run(f'operation {op} of a row by {divisors[:2]}..', *cases.hand_run(table, [*row, gap]).args[:3])
+
 
 def each_with_each(op, dtype, first, second):
     """Two PARAMs that hold the numbers, None for a gap, crossed by a binary operation."""
@@ -232,6 +272,8 @@ def by_hand():
 def fixed_runs(rng):
     yield from by_hand()
     yield from number_runs()
+    yield from power_runs()
     yield from movement_runs(rng)
     yield from reduce_runs(rng)
     yield from broadcast_runs(rng, 600)
+    yield from long_runs(rng)
