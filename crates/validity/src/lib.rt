@@ -16,7 +16,7 @@ pub fn same_strides(a: Stride, b: Stride, d: Stride, x: usize, y: usize) -> bool
     views::is_stride(a, x, 0) & (views::is_stride(b, y, 0) & views::is_stride(d, y, 0))
 }
 
-// Its flag.
+// The flag of a result cell.
 fn mix_flag(op: usize, x: i64, f: u8, g: u8, h: u8) -> u8
     ensures { λ r. ⌜ ((y z : ℤ) → r ≡ mixFlag op x f y g z h) ⌝ }
 {

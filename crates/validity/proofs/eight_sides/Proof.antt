@@ -10,147 +10,6 @@ use Rattle.validity.proofs.Rows.{side-read, store-eight}
 use Rattle.validity.proofs.eight_sides.Statement.{statement}
 use Rattle.validity.proofs.eight_sides.Tie as tie
 
-mul-x0 : tie.Need-mul-x0
-mul-x0 c = search needs
-
-shared-slice-copy-out-x0 : tie.Need-shared-slice-copy-out-x0
-shared-slice-copy-out-x0 c = search needs
-
-add-x1 : tie.Need-add-x1
-add-x1 c = search needs
-
-mul-x1 : tie.Need-mul-x1
-mul-x1 c = search needs
-
-shared-slice-copy-out-x1 : tie.Need-shared-slice-copy-out-x1
-shared-slice-copy-out-x1 c = search needs
-
-add-x2 : tie.Need-add-x2
-add-x2 c = search needs
-
-mul-x2 : tie.Need-mul-x2
-mul-x2 c = search needs
-
-shared-slice-copy-out-x2 : tie.Need-shared-slice-copy-out-x2
-shared-slice-copy-out-x2 c = search needs
-
-add-x3 : tie.Need-add-x3
-add-x3 c = search needs
-
-mul-x3 : tie.Need-mul-x3
-mul-x3 c = search needs
-
-shared-slice-copy-out-x3 : tie.Need-shared-slice-copy-out-x3
-shared-slice-copy-out-x3 c = search needs
-
-add-x4 : tie.Need-add-x4
-add-x4 c = search needs
-
-mul-x4 : tie.Need-mul-x4
-mul-x4 c = search needs
-
-shared-slice-copy-out-x4 : tie.Need-shared-slice-copy-out-x4
-shared-slice-copy-out-x4 c = search needs
-
-add-x5 : tie.Need-add-x5
-add-x5 c = search needs
-
-mul-x5 : tie.Need-mul-x5
-mul-x5 c = search needs
-
-shared-slice-copy-out-x5 : tie.Need-shared-slice-copy-out-x5
-shared-slice-copy-out-x5 c = search needs
-
-add-x6 : tie.Need-add-x6
-add-x6 c = search needs
-
-mul-x6 : tie.Need-mul-x6
-mul-x6 c = search needs
-
-shared-slice-copy-out-x6 : tie.Need-shared-slice-copy-out-x6
-shared-slice-copy-out-x6 c = search needs
-
-add-x7 : tie.Need-add-x7
-add-x7 c = search needs
-
-mul-x7 : tie.Need-mul-x7
-mul-x7 c = search needs
-
-shared-slice-copy-out-x7 : tie.Need-shared-slice-copy-out-x7
-shared-slice-copy-out-x7 c = search needs
-
-side-requires : tie.Need-side-requires
-side-requires c κs = search needs
-
-slice-write-flags : tie.Need-slice-write-flags
-slice-write-flags c = search needs
-
-side-requires-2 : tie.Need-side-requires-2
-side-requires-2 c κs = search needs
-
-add-flags : tie.Need-add-flags
-add-flags c = search needs
-
-slice-write-flags-2 : tie.Need-slice-write-flags-2
-slice-write-flags-2 c = rw length-set (omega (arith, c .before .before .before .before .before .before .before .before .before .before .before .pre .1))
-
-side-requires-3 : tie.Need-side-requires-3
-side-requires-3 c κs = search needs
-
-add-flags-2 : tie.Need-add-flags-2
-add-flags-2 c = search needs
-
-slice-write-flags-3 : tie.Need-slice-write-flags-3
-slice-write-flags-3 c = rw (length-set, length-set) (omega (arith, c .before .before .before .before .before .before .before .before .before .before .before .before .pre .1))
-
-side-requires-4 : tie.Need-side-requires-4
-side-requires-4 c κs = search needs
-
-add-flags-3 : tie.Need-add-flags-3
-add-flags-3 c = search needs
-
-slice-write-flags-4 : tie.Need-slice-write-flags-4
-slice-write-flags-4 c = rw (length-set, length-set, length-set) (omega (arith, c .before .before .before .before .before .before .before .before .before .before .before .before .before .pre .1))
-
-side-requires-5 : tie.Need-side-requires-5
-side-requires-5 c κs = search needs
-
-add-flags-4 : tie.Need-add-flags-4
-add-flags-4 c = search needs
-
-slice-write-flags-5 : tie.Need-slice-write-flags-5
-slice-write-flags-5 c = rw (length-set, length-set, length-set, length-set) (omega (arith, c .before .before .before .before .before .before .before .before .before .before .before .before .before .before .pre .1))
-
-side-requires-6 : tie.Need-side-requires-6
-side-requires-6 c κs = search needs
-
-add-flags-5 : tie.Need-add-flags-5
-add-flags-5 c = search needs
-
-slice-write-flags-6 : tie.Need-slice-write-flags-6
-slice-write-flags-6 c = rw (length-set, length-set, length-set, length-set, length-set) (omega (arith, c .before .before .before .before .before .before .before .before .before .before .before .before .before .before .before .pre .1))
-
-side-requires-7 : tie.Need-side-requires-7
-side-requires-7 c κs = search needs
-
-add-flags-6 : tie.Need-add-flags-6
-add-flags-6 c = search needs
-
-slice-write-flags-7 : tie.Need-slice-write-flags-7
-slice-write-flags-7 c = rw (length-set, length-set, length-set, length-set, length-set, length-set) (omega (arith, c .before .before .before .before .before .before .before .before .before .before .before .before .before .before .before .before .pre .1))
-
-side-requires-8 : tie.Need-side-requires-8
-side-requires-8 c κs = search needs
-
-add-flags-7 : tie.Need-add-flags-7
-add-flags-7 c = search needs
-
-slice-write-flags-8 : tie.Need-slice-write-flags-8
-slice-write-flags-8 c = rw (length-set, length-set, length-set, length-set, length-set, length-set, length-set) (omega (arith, c .before .before .before .before .before .before .before .before .before .before .before .before .before .before .before .before .before .pre .1))
-
-same-length : tie.Need-same-length
-same-length c = rw (length-set, length-set, length-set, length-set, length-set, length-set, length-set, length-set) refl
-
 returns : tie.Need-returns
 returns c =
     let p1 = c .before in
@@ -179,55 +38,56 @@ returns c =
     (p1 .side7 .ensures ∙ side-read (a .values .now) (R-is (fit-at _ (p9 .x6 .given))) refl)
     (c .side8 .ensures ∙ side-read (a .values .now) (R-is (fit-at _ (p8 .x7 .given))) refl)
 
+-- each read, then each side and the place that it goes to, then what is there at the end
 pub eight-sides-spec : {M : Type 1} → statement M
 eight-sides-spec =
     tie.close
     (tie.spec
-    mul-x0
-    shared-slice-copy-out-x0
-    add-x1
-    mul-x1
-    shared-slice-copy-out-x1
-    add-x2
-    mul-x2
-    shared-slice-copy-out-x2
-    add-x3
-    mul-x3
-    shared-slice-copy-out-x3
-    add-x4
-    mul-x4
-    shared-slice-copy-out-x4
-    add-x5
-    mul-x5
-    shared-slice-copy-out-x5
-    add-x6
-    mul-x6
-    shared-slice-copy-out-x6
-    add-x7
-    mul-x7
-    shared-slice-copy-out-x7
-    side-requires
-    slice-write-flags
-    side-requires-2
-    add-flags
-    slice-write-flags-2
-    side-requires-3
-    add-flags-2
-    slice-write-flags-3
-    side-requires-4
-    add-flags-3
-    slice-write-flags-4
-    side-requires-5
-    add-flags-4
-    slice-write-flags-5
-    side-requires-6
-    add-flags-5
-    slice-write-flags-6
-    side-requires-7
-    add-flags-6
-    slice-write-flags-7
-    side-requires-8
-    add-flags-7
-    slice-write-flags-8
-    same-length
+    (λ c. search needs)
+    (λ c. search needs)
+    (λ c. search needs)
+    (λ c. search needs)
+    (λ c. search needs)
+    (λ c. search needs)
+    (λ c. search needs)
+    (λ c. search needs)
+    (λ c. search needs)
+    (λ c. search needs)
+    (λ c. search needs)
+    (λ c. search needs)
+    (λ c. search needs)
+    (λ c. search needs)
+    (λ c. search needs)
+    (λ c. search needs)
+    (λ c. search needs)
+    (λ c. search needs)
+    (λ c. search needs)
+    (λ c. search needs)
+    (λ c. search needs)
+    (λ c. search needs)
+    (λ c. search needs)
+    (λ c κs. search needs)
+    (λ c. search needs)
+    (λ c κs. search needs)
+    (λ c. search needs)
+    (λ c. rw length-set (omega (arith, c .before .before .before .before .before .before .before .before .before .before .before .pre .1)))
+    (λ c κs. search needs)
+    (λ c. search needs)
+    (λ c. rw (length-set, length-set) (omega (arith, c .before .before .before .before .before .before .before .before .before .before .before .before .pre .1)))
+    (λ c κs. search needs)
+    (λ c. search needs)
+    (λ c. rw (length-set, length-set, length-set) (omega (arith, c .before .before .before .before .before .before .before .before .before .before .before .before .before .pre .1)))
+    (λ c κs. search needs)
+    (λ c. search needs)
+    (λ c. rw (length-set, length-set, length-set, length-set) (omega (arith, c .before .before .before .before .before .before .before .before .before .before .before .before .before .before .pre .1)))
+    (λ c κs. search needs)
+    (λ c. search needs)
+    (λ c. rw (length-set, length-set, length-set, length-set, length-set) (omega (arith, c .before .before .before .before .before .before .before .before .before .before .before .before .before .before .before .pre .1)))
+    (λ c κs. search needs)
+    (λ c. search needs)
+    (λ c. rw (length-set, length-set, length-set, length-set, length-set, length-set) (omega (arith, c .before .before .before .before .before .before .before .before .before .before .before .before .before .before .before .before .pre .1)))
+    (λ c κs. search needs)
+    (λ c. search needs)
+    (λ c. rw (length-set, length-set, length-set, length-set, length-set, length-set, length-set) (omega (arith, c .before .before .before .before .before .before .before .before .before .before .before .before .before .before .before .before .before .pre .1)))
+    (λ c. rw (length-set, length-set, length-set, length-set, length-set, length-set, length-set, length-set) refl)
     returns)
