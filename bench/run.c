@@ -1,6 +1,6 @@
 /* Time of runs by the library and by plain C, in one run, in turn and over the same buffers; answers and buffers are compared first.
  * Called as `run write FILE` it only writes the joining plan and its input, for numpy_join.py. */
-#define _POSIX_C_SOURCE 200809L
+#define _DEFAULT_SOURCE
 #include "join.h"
 #include "lupetzarin.h"
 #include "plain_run.h"
@@ -10,6 +10,7 @@
 #include <stdio.h>
 #include <stdlib.h>
 #include <string.h>
+#include <sys/mman.h>
 #include <time.h>
 
 #define MOST_CELLS 4194304
@@ -26,9 +27,12 @@ static int64_t *given, *kept_values;
 static uint8_t *known, *kept_flags;
 static cells all;
 
+/* Large pages where the system has them, as numpy asks for them too. */
 static void *pages(size_t bytes) {
-    void *p = aligned_alloc(1 << 21, (bytes + (1 << 21) - 1) >> 21 << 21);
+    size_t whole = (bytes + (1 << 21) - 1) >> 21 << 21;
+    void *p = aligned_alloc(1 << 21, whole);
     if (!p) exit(2);
+    madvise(p, whole, MADV_HUGEPAGE);
     memset(p, 1, bytes);
     return p;
 }

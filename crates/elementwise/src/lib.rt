@@ -182,7 +182,7 @@ fn plain_row(
 }
 
 // The cells of a row.
-fn mix_row(
+pub fn mix_row(
     values: &mut [i64],
     flags: &mut [u8],
     op: usize,
@@ -208,14 +208,14 @@ fn mix_row(
 }
 
 // None of three strides goes down.
-fn rising(a: Stride, b: Stride, d: Stride) -> bool
+pub fn rising(a: Stride, b: Stride, d: Stride) -> bool
     ensures { λ r. ⌜ (r ≡ true → (a .down ≡ 0) × (b .down ≡ 0) × (d .down ≡ 0)) ⌝ }
 {
     (a.down == 0) & ((b.down == 0) & (d.down == 0))
 }
 
 // The next part of what is left of a row.
-fn part(left: usize) -> usize
+pub fn part(left: usize) -> usize
     requires { ⌜ 0 < left ⌝ }
     ensures { λ r. ⌜ (0 < r) × (r ≤ left) ⌝ }
 {

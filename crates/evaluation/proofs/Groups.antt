@@ -1,21 +1,21 @@
 -- What the check has found of a node, for each group of operations.
-use Prim.Native.Nat.{ℕ, _<_}
-use mathlib.Core.Path.{_≡_, refl, sym, ap, _∙_}
+use Prim.Native.Nat.{ℕ, _≤_, _<_}
+use mathlib.Core.Path.{_≡_, refl, sym, ap}
 use mathlib.Core.Bool.{Bool, true, false, _&&_, _||_, false≢true}
 use mathlib.Core.List.{List, []}
 use native.Mathlib.Omega.{arith}
-use borrow.Author.Tests.{eqb-true, ne-eqb, ltb-true, leb-true, le-ltb}
+use borrow.Author.Tests.{eqb-true, eqb-false, ne-eqb, ltb-true, leb-true, le-ltb}
 use lib.Dec.{eqb, leb, ltb}
 use Rattle.laws.specs.Lists.{allBelow, among}
 use Rattle.laws.specs.Numbering.{count}
-use Rattle.laws.proofs.Booleans.{and-true, all-below}
+use Rattle.laws.proofs.Booleans.{bool-cases, and-true, all-below}
 use Rattle.plan.specs.declared.Node.{Node}
-use Rattle.plan.specs.Operations.{CONST, PERMUTE, FLIP, RESHAPE, EXPAND, PAD, SHRINK, CAST, ADD, MUL, MAX, IDIV, MOD, CMPLT, CMPNE, AND, OR, WHERE, REDUCE, LOAD, followed, binaries, uses, operationCount, byOperation}
+use Rattle.plan.specs.Operations.{CONST, PERMUTE, FLIP, RESHAPE, EXPAND, PAD, SHRINK, CAST, WHERE, REDUCE, LOAD, followed, binaries, uses, operationCount, byOperation}
 use Rattle.plan.specs.Words.{listOf}
 use Rattle.plan.proofs.ByOperation.{_then_, for-group}
 use Rattle.shapes.specs.Rows.{extentsOf}
 use Rattle.shapes.specs.Rules.{shapeRules, shapesAgree, resultRules, resultExtents}
-use Rattle.shapes.proofs.Broadcast.{binary-extents}
+use Rattle.shapes.proofs.Broadcast.{Spreads, binary-spreads, where-spreads}
 use Rattle.shapes.proofs.Extents.{positive-none}
 use Rattle.walking.specs.Movements.{viewed, Viewed}
 use Rattle.evaluation.specs.Standing.{copied, moves, Padded, Reduced}
@@ -24,39 +24,42 @@ use Rattle.evaluation.specs.Ready.{Proper, Right}
 -- ---- the groups by number
 
 -- what is left of the operations
-others : allBelow operationCount (λ (op : ℕ). eqb op 0 || (eqb op 1 || (eqb op 18 || (eqb op 19 || ((leb 9 op && ltb op 18) || among op moves))))) ≡ true
+others : allBelow operationCount (λ (op : ℕ). eqb op 0 || (eqb op 1 || (eqb op 19 || ((leb 9 op && ltb op 19) || among op moves)))) ≡ true
 unfolding allBelow among
 others = refl
 
-pub rest-moves : (op : ℕ) → op < operationCount → (op ≡ 0 → ⊥) → (op ≡ 1 → ⊥) → (op ≡ 18 → ⊥) → (op ≡ 19 → ⊥) → (leb 9 op && ltb op 18) ≡ false → among op moves ≡ true
-rest-moves op h a b c d e =
-    let all = all-below operationCount (λ (op : ℕ). eqb op 0 || (eqb op 1 || (eqb op 18 || (eqb op 19 || ((leb 9 op && ltb op 18) || among op moves))))) others op h in
-    rw (ne-eqb op 0 a, ne-eqb op 1 b, ne-eqb op 18 c, ne-eqb op 19 d, e) at all
+pub rest-moves : (op : ℕ) → op < operationCount → (op ≡ 0 → ⊥) → (op ≡ 1 → ⊥) → (op ≡ 19 → ⊥) → (leb 9 op && ltb op 19) ≡ false → among op moves ≡ true
+rest-moves op h a b c d =
+    let all = all-below operationCount (λ (op : ℕ). eqb op 0 || (eqb op 1 || (eqb op 19 || ((leb 9 op && ltb op 19) || among op moves)))) others op h in
+    rw (ne-eqb op 0 a, ne-eqb op 1 b, ne-eqb op 19 c, d) at all
+
+-- the binary operations, and WHERE after them
+pub mixed-range : (op : ℕ) → (leb 9 op && ltb op 19) ≡ true → (9 ≤ op) × (op < 19)
+mixed-range op e = let ends = and-true (leb 9 op) (ltb op 19) e in (leb-true 9 op (ends .0), ltb-true op 19 (ends .1))
 
 between : allBelow 18 (λ (op : ℕ). ltb op 9 || among op binaries) ≡ true
 unfolding allBelow among
 between = refl
 
-pub range-binaries : (op : ℕ) → (leb 9 op && ltb op 18) ≡ true → among op binaries ≡ true
-range-binaries op e =
-    let ends = and-true (leb 9 op) (ltb op 18) e in
-    let all = all-below 18 (λ (op : ℕ). ltb op 9 || among op binaries) between op (ltb-true op 18 (ends .1)) in
-    rw (le-ltb op 9 (leb-true 9 op (ends .0))) at all
+pub range-binaries : (op : ℕ) → 9 ≤ op → op < 19 → (op ≡ WHERE → ⊥) → among op binaries ≡ true
+range-binaries op low high n = rw (le-ltb op 9 low) at (all-below 18 (λ (op : ℕ). ltb op 9 || among op binaries) between op (omega arith))
 
 -- the sources that a group uses
 pub moves-use : (op : ℕ) → among op moves ≡ true → uses op 1 ≡ true
 unfolding uses among
 moves-use op h = for-group (λ (op : ℕ). uses op 1 ≡ true) op moves (refl then refl then refl then refl then refl then refl then refl then refl then tt) h
 
-pub binaries-use : (op : ℕ) → among op binaries ≡ true → (uses op 1 ≡ true) × (uses op 2 ≡ true)
-unfolding uses among
-binaries-use op h =
-    for-group (λ (op : ℕ). (uses op 1 ≡ true) × (uses op 2 ≡ true)) op binaries
-    ((refl, refl) then (refl, refl) then (refl, refl) then (refl, refl) then (refl, refl) then (refl, refl) then (refl, refl) then (refl, refl) then (refl, refl) then tt) h
+mixed-using : allBelow 19 (λ (op : ℕ). ltb op 9 || (uses op 1 && uses op 2)) ≡ true
+unfolding allBelow uses among
+mixed-using = refl
 
-pub where-uses : (op : ℕ) → op ≡ WHERE → (uses op 1 ≡ true) × (uses op 2 ≡ true) × (uses op 3 ≡ true)
+pub mixed-uses : (op : ℕ) → 9 ≤ op → op < 19 → (uses op 1 ≡ true) × (uses op 2 ≡ true)
+mixed-uses op low high =
+    and-true (uses op 1) (uses op 2) (rw (le-ltb op 9 low) at (all-below 19 (λ (op : ℕ). ltb op 9 || (uses op 1 && uses op 2)) mixed-using op high))
+
+pub where-uses : (op : ℕ) → op ≡ WHERE → uses op 3 ≡ true
 unfolding uses among
-where-uses op q = rw q (refl, refl, refl)
+where-uses op q = rw q refl
 
 pub reduce-uses : (op : ℕ) → op ≡ REDUCE → uses op 1 ≡ true
 unfolding uses among
@@ -170,23 +173,15 @@ module _ (x : Node) (s t u r : List ℕ) (right : Right x s t u r) where
         whole = right .whole;
       }
 
-  binary-agrees : among (x .op) binaries ≡ true → shapesAgree x s t [] ≡ true
-  unfolding shapesAgree among
-  binary-agrees h =
-      let by : (op : ℕ) → x .op ≡ op → byOperation op (shapeRules x s t u) false ≡ true = λ op q. rw q at (right .shapes) in
-      for-group (λ (op : ℕ). x .op ≡ op → byOperation op (shapeRules x s t []) false ≡ true) (x .op) binaries
-      (by ADD then by MUL then by MAX then by IDIV then by MOD then by CMPLT then by CMPNE then by AND then by OR then tt) h refl
-
-  pub both-right : among (x .op) binaries ≡ true → Right x s t [] r
-  both-right h =
-      record {
-        params = right .params;
-        known = right .known;
-        rows = right .rows;
-        shapes = binary-agrees h;
-        result = right .result ∙ binary-extents x s t u h ∙ sym (binary-extents x s t [] h);
-        first = right .first;
-        second = right .second;
-        third = proper-none;
-        whole = right .whole;
-      }
+  -- the sources of a binary operation or WHERE are broadcast to the result
+  pub mixed-spreads : 9 ≤ x .op → x .op < 19 → Spreads s r × Spreads t r × (x .op ≡ WHERE → Spreads u r)
+  mixed-spreads low high =
+      rw (right .result)
+      (bool-cases (eqb (x .op) WHERE)
+      (λ is.
+      let all = where-spreads x s t u (right .first .positive) (right .second .positive) (right .shapes) (right .third .positive) (eqb-true (x .op) WHERE is) in
+      (all .0, all .1, λ q. all .2))
+      (λ is.
+      let n : x .op ≡ WHERE → ⊥ = eqb-false (x .op) WHERE is in
+      let two = binary-spreads x s t u (right .first .positive) (right .second .positive) (right .shapes) (range-binaries (x .op) low high n) in
+      (two .0, two .1, λ q. absurd (n q))))

@@ -1,7 +1,8 @@
 pub mod Walked
 pub mod Laying
 pub mod Leaves
-pub mod Mixed
-pub mod Gathered
 pub mod Groups
+pub mod Mixed
+pub mod OneRow
+pub mod Gathered
 pub mod Turns

@@ -1,39 +1,41 @@
 -- Binary operations and WHERE over views of their sources.
-use Prim.Native.Nat.{ℕ, _<_, _≤_}
+use Prim.Native.Nat.{ℕ, _+_, _<_, _≤_}
 use mathlib.Core.Path.{_≡_, refl, sym, ap, _∙_}
 use mathlib.Core.Bool.{Bool, true, false, cond}
 use mathlib.Core.List.{List}
 use native.Mathlib.Omega.{arith}
-use borrow.Author.Tests.{ne-eqb}
+use borrow.Author.Tests.{eqb-true, eqb-false, ne-eqb}
+use lib.Dec.{eqb}
 use lib.IntN.{ℤ, pos}
 use lib.ListN.{getD}
 use Rattle.laws.specs.Integers.{sameZ}
 use Rattle.laws.specs.Lists.{among}
 use Rattle.laws.specs.Numbering.{count}
 use Rattle.laws.specs.Store.{store}
+use Rattle.laws.proofs.Booleans.{bool-cases}
 use Rattle.laws.proofs.Store.{store-same}
 use Rattle.plan.specs.declared.Node.{Node}
 use Rattle.plan.specs.declared.Row.{Row}
 use Rattle.plan.specs.Operations.{WHERE, binaries}
 use Rattle.plan.specs.Words.{element}
 use Rattle.plan.proofs.ByOperation.{_then_, for-group}
-use Rattle.shapes.specs.Sources.{broadcastSource}
 use Rattle.cells.specs.Cells.{Cell, known, gap, Field, both, whereCell, binary}
 use Rattle.cells.specs.Nodes.{Operands, evalCell, broadcastCell}
 use Rattle.runner.specs.Run.{valueOf, flagOf}
 use Rattle.views.specs.declared.View.{View}
-use Rattle.views.specs.Views.{cellsOf, place}
-use Rattle.views.specs.Walks.{Walks}
+use Rattle.views.specs.Views.{cellsOf, place, reach}
 use Rattle.validity.specs.Flags.{mixFlag, three, mixedFlags}
 use Rattle.elementwise.specs.Mixing.{plainValue, mixValue, mixedValues}
 use Rattle.walking.specs.declared.Walk.{Walk}
-use Rattle.walking.specs.Alike.{Still}
+use Rattle.walking.specs.Alike.{Still, Near}
 use Rattle.evaluation.specs.Standing.{Source, Evaluates}
+use Rattle.evaluation.specs.Spread.{Spreading, Spread}
 use Rattle.evaluation.proofs.Walked.{walk-below}
+use Rattle.evaluation.proofs.Groups.{range-binaries}
 
 -- ---- the same places
 
-three-same : {C : Type 0} (F : ℤ → ℕ → ℤ → ℕ → ℤ → ℕ → C) (vs : List ℤ) (fs : List ℕ) {p p′ q q′ u u′ : ℕ} → p ≡ p′ → q ≡ q′ → u ≡ u′ → three F vs fs p q u ≡ three F vs fs p′ q′ u′
+pub three-same : {C : Type 0} (F : ℤ → ℕ → ℤ → ℕ → ℤ → ℕ → C) (vs : List ℤ) (fs : List ℕ) {p p′ q q′ u u′ : ℕ} → p ≡ p′ → q ≡ q′ → u ≡ u′ → three F vs fs p q u ≡ three F vs fs p′ q′ u′
 three-same F vs fs a b c = rw (a, b, c) refl
 
 -- three views over as few axes as they let there be
@@ -71,15 +73,15 @@ choose : {C : Type 0} (f : Cell → C) (b : Bool) (y z : Cell) → cond b (f z) 
 choose f true y z = refl
 choose f false y z = refl
 
-where-value : (a b d : Cell) → ofCells (mixValue WHERE) a b d ≡ valueOf (whereCell a b d)
+where-value : (op : ℕ) → op ≡ WHERE → (a b d : Cell) → ofCells (mixValue op) a b d ≡ valueOf (whereCell a b d)
 unfolding mixValue plainValue
-where-value (known x) b d = choose valueOf (sameZ x (pos 0)) b d
-where-value gap b d = refl
+where-value op q (known x) b d = rw q (choose valueOf (sameZ x (pos 0)) b d)
+where-value op q gap b d = rw q refl
 
-where-flag : (a b d : Cell) → ofCells (mixFlag WHERE) a b d ≡ flagOf (whereCell a b d)
+where-flag : (op : ℕ) → op ≡ WHERE → (a b d : Cell) → ofCells (mixFlag op) a b d ≡ flagOf (whereCell a b d)
 unfolding mixFlag
-where-flag (known x) b d = choose flagOf (sameZ x (pos 0)) b d
-where-flag gap b d = refl
+where-flag op q (known x) b d = rw q (choose flagOf (sameZ x (pos 0)) b d)
+where-flag op q gap b d = rw q refl
 
 binary-cell : (x : Node) (r : List ℕ) (o : Operands) (e : ℕ) → among (x .op) binaries ≡ true
     → evalCell x r o (element e) ≡ both (binary (x .op)) (broadcastCell (o .a) r (element e)) (broadcastCell (o .b) r (element e))
@@ -88,26 +90,12 @@ binary-cell x r o e h =
     for-group (λ (op : ℕ). x .op ≡ op → evalCell x r o (element e) ≡ both (binary (x .op)) (broadcastCell (o .a) r (element e)) (broadcastCell (o .b) r (element e))) (x .op) binaries
     ((λ q. rw q refl) then (λ q. rw q refl) then (λ q. rw q refl) then (λ q. rw q refl) then (λ q. rw q refl) then (λ q. rw q refl) then (λ q. rw q refl) then (λ q. rw q refl) then (λ q. rw q refl) then tt) h refl
 
-no-binary : (op : ℕ) → among op binaries ≡ true → op ≡ WHERE → ⊥
-no-binary op h =
-    for-group (λ (op : ℕ). op ≡ WHERE → ⊥) op binaries
-    ((λ q. omega arith) then (λ q. omega arith) then (λ q. omega arith) then (λ q. omega arith) then (λ q. omega arith) then (λ q. omega arith) then (λ q. omega arith) then (λ q. omega arith) then (λ q. omega arith) then tt) h
-
-pub binary-range : (op : ℕ) → among op binaries ≡ true → (9 ≤ op) × (op < 19)
-binary-range op h =
-    for-group (λ (op : ℕ). (9 ≤ op) × (op < 19)) op binaries
-    ((omega arith, omega arith) then (omega arith, omega arith) then (omega arith, omega arith) then (omega arith, omega arith) then (omega arith, omega arith) then (omega arith, omega arith) then (omega arith, omega arith) then (omega arith, omega arith) then (omega arith, omega arith) then tt) h
-
 where-cell : (x : Node) (r : List ℕ) (o : Operands) (e : ℕ) → x .op ≡ WHERE
     → evalCell x r o (element e) ≡ whereCell (broadcastCell (o .a) r (element e)) (broadcastCell (o .b) r (element e)) (broadcastCell (o .c) r (element e))
 unfolding evalCell among
 where-cell x r o e q = rw q refl
 
 -- ---- what the views of the sources read
-
--- a view that walks over a source as a broadcast to extents r does
-abbrev pub Spreading : Row → View → ℕ → List ℕ → List ℕ → Type 0
-Spreading R v base s r = Walks R v base (count r) (count s) (λ (e : ℕ). broadcastSource s r (element e) .0)
 
 module _ {R : Row} {v : View} {base : ℕ} {s : List ℕ} (r : List ℕ) (vs : List ℤ) (fs : List ℕ) (f : Field) (source : Source vs fs base s f) (w : Spreading R v base s r) where
   same : Spreading R v base (f .extents) r
@@ -122,33 +110,52 @@ module _ {R : Row} {v : View} {base : ℕ} {s : List ℕ} (r : List ℕ) (vs : L
 three-cells : {C : Type 0} (F : ℤ → ℕ → ℤ → ℕ → ℤ → ℕ → C) {x x′ y y′ z z′ : ℤ} {f f′ g g′ h h′ : ℕ} → x ≡ x′ → f ≡ f′ → y ≡ y′ → g ≡ g′ → z ≡ z′ → h ≡ h′ → F x f y g z h ≡ F x′ f′ y′ g′ z′ h′
 three-cells F a b c d e i = rw (a, b, c, d, e, i) refl
 
-module _ (x : Node) (r : List ℕ) (o : Operands) (vs : List ℤ) (fs : List ℕ) (start : ℕ) {R : Row} {va vb : View} {pa pb : ℕ} {s t : List ℕ}
-    (a : Source vs fs pa s (o .a)) (b : Source vs fs pb t (o .b)) (wa : Spreading R va pa s r) (wb : Spreading R vb pb t r) where
-  module _ {vd : View} {pd : ℕ} {u : List ℕ} (c : Field) (d : Source vs fs pd u c) (wd : Spreading R vd pd u r) where
-    read : {C : Type 0} (F : ℤ → ℕ → ℤ → ℕ → ℤ → ℕ → C) (e : ℕ) → e < count r
-        → three F vs fs (place R va e) (place R vb e) (place R vd e) ≡ ofCells F (broadcastCell (o .a) r (element e)) (broadcastCell (o .b) r (element e)) (broadcastCell c r (element e))
-    read F e h =
-        three-cells F (value-at r vs fs (o .a) a wa e h) (flag-at r vs fs (o .a) a wa e h) (value-at r vs fs (o .b) b wb e h) (flag-at r vs fs (o .b) b wb e h) (value-at r vs fs c d wd e h) (flag-at r vs fs c d wd e h)
+-- the cell of a source under element e
+abbrev cell : List ℕ → Field → ℕ → Cell
+cell r f e = broadcastCell f r (element e)
 
-  -- the cell of a source under element e
-  abbrev cell : Field → ℕ → Cell
-  cell f e = broadcastCell f r (element e)
+read : {C : Type 0} (F : ℤ → ℕ → ℤ → ℕ → ℤ → ℕ → C) (r : List ℕ) (vs : List ℤ) (fs : List ℕ) {R : Row} {va vb vd : View} {pa pb pd : ℕ} {s t u : List ℕ} (f g h : Field)
+    → Source vs fs pa s f → Source vs fs pb t g → Source vs fs pd u h → Spreading R va pa s r → Spreading R vb pb t r → Spreading R vd pd u r → (e : ℕ) → e < count r
+    → three F vs fs (place R va e) (place R vb e) (place R vd e) ≡ ofCells F (cell r f e) (cell r g e) (cell r h e)
+read F r vs fs f g h a b d wa wb wd e q =
+    three-cells F (value-at r vs fs f a wa e q) (flag-at r vs fs f a wa e q) (value-at r vs fs g b wb e q) (flag-at r vs fs g b wb e q) (value-at r vs fs h d wd e q) (flag-at r vs fs h d wd e q)
 
-  pub binary-evaluates : {vs′ : List ℤ} {fs′ : List ℕ} → among (x .op) binaries ≡ true
-      → vs′ ≡ mixedValues (x .op) vs fs R va vb vb start → fs′ ≡ mixedFlags (x .op) vs fs R va vb vb start → Evaluates x r o vs fs start vs′ fs′
-  binary-evaluates m ev ef =
+-- ---- a node whose sources stand in the buffers
+
+module _ (x : Node) {s t u r : List ℕ} {pa pb pc : ℕ} {w : Walk} (o : Operands) (vs : List ℤ) (fs : List ℕ) (start : ℕ) (low : 9 ≤ x .op) (high : x .op < 19)
+    (spread : Spread x s t u r pa pb pc w) (a : Source vs fs pa s (o .a)) (b : Source vs fs pb t (o .b)) (c : x .op ≡ WHERE → Source vs fs pc u (o .c)) where
+  -- its cell is what F gives of its sources' cells, where F does so by the rules of both groups
+  mixed-cell : {C : Type 0} (F : ℤ → ℕ → ℤ → ℕ → ℤ → ℕ → C) (G : Cell → C)
+      → ((x .op ≡ WHERE → ⊥) → (a b d : Cell) → ofCells F a b d ≡ G (both (binary (x .op)) a b)) → (x .op ≡ WHERE → (a b d : Cell) → ofCells F a b d ≡ G (whereCell a b d))
+      → (e : ℕ) → e < count r → three F vs fs (place (w .grid) (w .a) e) (place (w .grid) (w .b) e) (place (w .grid) (w .d) e) ≡ G (evalCell x r o (element e))
+  mixed-cell F G two-rule three-rule e h =
+      bool-cases (eqb (x .op) WHERE)
+      (λ is.
+      let q : x .op ≡ WHERE = eqb-true (x .op) WHERE is in
+      read F r vs fs (o .a) (o .b) (o .c) a b (c q) (spread .first) (spread .second) (spread .third q) e h ∙ three-rule q (cell r (o .a) e) (cell r (o .b) e) (cell r (o .c) e) ∙ ap G (sym (where-cell x r o e q)))
+      (λ is.
+      let n : x .op ≡ WHERE → ⊥ = eqb-false (x .op) WHERE is in
+      rw (spread .twice n)
+      (read F r vs fs (o .a) (o .b) (o .b) a b b (spread .first) (spread .second) (spread .second) e h ∙ two-rule n (cell r (o .a) e) (cell r (o .b) e) (cell r (o .b) e) ∙ ap G (sym (binary-cell x r o e (range-binaries (x .op) low high n)))))
+
+  pub mixed-evaluates : {vs′ : List ℤ} {fs′ : List ℕ}
+      → (vs′ ≡ mixedValues (x .op) vs fs (w .grid) (w .a) (w .b) (w .d) start) × (fs′ ≡ mixedFlags (x .op) vs fs (w .grid) (w .a) (w .b) (w .d) start) → Evaluates x r o vs fs start vs′ fs′
+  mixed-evaluates m =
       record {
-        values = ev ∙ rw (wa .cells) (store-same vs start (count r) _ _ (λ e h. read (o .b) b wb (mixValue (x .op)) e h ∙ both-value (x .op) other (cell (o .a) e) (cell (o .b) e) (cell (o .b) e) ∙ ap valueOf (sym (binary-cell x r o e m))));
-        flags = ef ∙ rw (wa .cells) (store-same fs start (count r) _ _ (λ e h. read (o .b) b wb (mixFlag (x .op)) e h ∙ both-flag (x .op) other (cell (o .a) e) (cell (o .b) e) (cell (o .b) e) ∙ ap flagOf (sym (binary-cell x r o e m))));
+        values = m .0 ∙ rw (spread .first .cells) (store-same vs start (count r) _ _ (mixed-cell (mixValue (x .op)) valueOf (both-value (x .op)) (where-value (x .op))));
+        flags = m .1 ∙ rw (spread .first .cells) (store-same fs start (count r) _ _ (mixed-cell (mixFlag (x .op)) flagOf (both-flag (x .op)) (where-flag (x .op))));
       }
-    where
-      other : x .op ≡ WHERE → ⊥
-      other q = no-binary (x .op) m q
 
-  pub where-evaluates : {vd : View} {pd : ℕ} {u : List ℕ} {vs′ : List ℤ} {fs′ : List ℕ} → Source vs fs pd u (o .c) → Spreading R vd pd u r → x .op ≡ WHERE
-      → vs′ ≡ mixedValues WHERE vs fs R va vb vd start → fs′ ≡ mixedFlags WHERE vs fs R va vb vd start → Evaluates x r o vs fs start vs′ fs′
-  where-evaluates c wd q ev ef =
-      record {
-        values = ev ∙ rw (wa .cells) (store-same vs start (count r) _ _ (λ e h. read (o .c) c wd (mixValue WHERE) e h ∙ where-value (cell (o .a) e) (cell (o .b) e) (cell (o .c) e) ∙ ap valueOf (sym (where-cell x r o e q))));
-        flags = ef ∙ rw (wa .cells) (store-same fs start (count r) _ _ (λ e h. read (o .c) c wd (mixFlag WHERE) e h ∙ where-flag (cell (o .a) e) (cell (o .b) e) (cell (o .c) e) ∙ ap flagOf (sym (where-cell x r o e q))));
-      }
+-- the places that its views read
+pub spread-near : {x : Node} {s t u r : List ℕ} {pa pb pc : ℕ} {w : Walk} {limit : ℕ} → Spread x s t u r pa pb pc w
+    → pa + count s ≤ limit → pb + count t ≤ limit → (x .op ≡ WHERE → pc + count u ≤ limit) → Near w limit
+spread-near {x} {w = w} {limit} spread a b c = record { a = omega (arith, spread .first .inside); b = second; d = third }
+  where
+    second : reach (w .grid) (w .b) < limit
+    second = omega (arith, spread .second .inside)
+
+    third : reach (w .grid) (w .d) < limit
+    third =
+        bool-cases (eqb (x .op) WHERE)
+        (λ is. let q : x .op ≡ WHERE = eqb-true (x .op) WHERE is in omega (arith, spread .third q .inside, c q))
+        (λ is. rw (spread .twice (eqb-false (x .op) WHERE is)) second)

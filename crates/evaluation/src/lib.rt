@@ -2,7 +2,7 @@
 ghost use mathlib.Core.Path.{_≡_};
 ghost use mathlib.Core.Bool.{true, cond};
 ghost use mathlib.Core.List.{List, []};
-ghost use Prim.Native.Nat.{ℕ, _+_, _≤_, _<_};
+ghost use Prim.Native.Nat.{ℕ, _+_, _^_, _≤_, _<_};
 ghost use Rattle.laws.specs.Lists.{among};
 ghost use Rattle.laws.specs.Numbering.{count};
 ghost use Rattle.shapes.specs.Rules.{resultExtents, gatheredExtents};
@@ -11,7 +11,7 @@ ghost use lib.IntN.{pos};
 ghost use lib.ListN.{length};
 ghost use Rattle.views.specs.Views.{cellsOf, reach};
 ghost use Rattle.moving.specs.Moved.{moved};
-ghost use Rattle.plan.specs.Operations.{binaries};
+ghost use Rattle.plan.specs.Operations.{WHERE, uses};
 ghost use Rattle.plan.specs.Words.{element, listOf};
 ghost use Rattle.shapes.specs.Sources.{broadcastSource};
 ghost use Rattle.shapes.proofs.Broadcast.{Spreads};
@@ -20,15 +20,17 @@ ghost use Rattle.views.specs.Walks.{InFront, Walks};
 ghost use Rattle.elementwise.specs.Mixing.{mixedValues};
 ghost use Rattle.validity.specs.Flags.{mixedFlags};
 ghost use Rattle.views.specs.Numbers.{SmallBefore};
-ghost use Rattle.walking.specs.Alike.{Near};
+ghost use Rattle.walking.specs.Alike.{Near, Still, Reaches};
 ghost use Rattle.evaluation.specs.Ready.{Proper, Right, Ready, Reads};
 ghost use Rattle.cells.specs.Nodes.{Operands};
 ghost use Rattle.walking.specs.Movements.{Viewed};
 ghost use Rattle.evaluation.specs.Standing.{Source, Evaluates, Room, Given, copied, moves, Padded, Reduced};
+ghost use Rattle.evaluation.specs.Spread.{Spread, OneRow, rowLane, IsLane};
 ghost use lib.Dec.{eqb};
 use plan::Node;
 use plan::Row;
 use shapes::Shape;
+use tiling::Lane;
 use views::Stride;
 use views::View;
 use walking::Walk;
@@ -172,32 +174,33 @@ fn mix_cells(op: usize, w: Walk, values: &mut [i64], flags: &mut [u8], start: us
     elementwise::mix(values, flags, op, t.grid, t.a, t.b, t.d, rows, start);
 }
 
-// ADD to OR.
-fn eval_binary(
-    x: Node,
-    r: Shape,
-    a: Operand,
-    b: Operand,
-    values: &mut [i64],
-    flags: &mut [u8],
-    start: usize,
-)
-    requires { ⌜ (among (x .op) binaries ≡ true) × Right x (shown (a .shape)) (shown (b .shape)) [] (shown r) × Room (shown r) start (now values) (now flags) × SmallBefore (now values) start × (a .base + count (shown (a .shape)) ≤ start) × (b .base + count (shown (b .shape)) ≤ start) ⌝ }
-    ensures { λ _. ⌜ ((o : Operands) → Source (now (values .entry)) (now (flags .entry)) (a .base) (shown (a .shape)) (o .a) → Source (now (values .entry)) (now (flags .entry)) (b .base) (shown (b .shape)) (o .b) → Evaluates x (shown r) o (now (values .entry)) (now (flags .entry)) start (now (values .exit)) (now (flags .exit))) ⌝ }
+// The views of the sources of a binary operation or WHERE, over the grid of its result; a binary operation has its second twice.
+fn mixed_walk(x: Node, r: Shape, a: Operand, b: Operand, d: Operand) -> Walk
+    requires { ⌜ (9 ≤ x .op) × (x .op < 19) × Right x (shown (a .shape)) (shown (b .shape)) (shown (d .shape)) (shown r) ⌝ }
+    ensures { λ w. ⌜ Spread x (shown (a .shape)) (shown (b .shape)) (shown (d .shape)) (shown r) (a .base) (b .base) (d .base) w ⌝ }
 {
+    let grid = views::grid(r);
     let va = operand_view(a);
     let vb = operand_view(b);
-    let w = Walk {
-        grid: views::grid(r),
+    if x.op == 18 {
+        let vd = operand_view(d);
+        return Walk {
+            grid: grid,
+            a: va,
+            b: vb,
+            d: vd,
+        };
+    }
+    Walk {
+        grid: grid,
         a: va,
         b: vb,
         d: vb,
-    };
-    mix_cells(x.op, w, values, flags, start);
+    }
 }
 
-// WHERE.
-fn eval_where(
+// ADD to OR, and WHERE.
+fn eval_mixed(
     x: Node,
     r: Shape,
     a: Operand,
@@ -207,19 +210,69 @@ fn eval_where(
     flags: &mut [u8],
     start: usize,
 )
-    requires { ⌜ (x .op ≡ 18) × Right x (shown (a .shape)) (shown (b .shape)) (shown (d .shape)) (shown r) × Room (shown r) start (now values) (now flags) × SmallBefore (now values) start × (a .base + count (shown (a .shape)) ≤ start) × (b .base + count (shown (b .shape)) ≤ start) × (d .base + count (shown (d .shape)) ≤ start) ⌝ }
-    ensures { λ _. ⌜ ((o : Operands) → Source (now (values .entry)) (now (flags .entry)) (a .base) (shown (a .shape)) (o .a) → Source (now (values .entry)) (now (flags .entry)) (b .base) (shown (b .shape)) (o .b) → Source (now (values .entry)) (now (flags .entry)) (d .base) (shown (d .shape)) (o .c) → Evaluates x (shown r) o (now (values .entry)) (now (flags .entry)) start (now (values .exit)) (now (flags .exit))) ⌝ }
+    requires { ⌜ (9 ≤ x .op) × (x .op < 19) × Right x (shown (a .shape)) (shown (b .shape)) (shown (d .shape)) (shown r) × Room (shown r) start (now values) (now flags) × SmallBefore (now values) start × (a .base + count (shown (a .shape)) ≤ start) × (b .base + count (shown (b .shape)) ≤ start) × (x .op ≡ WHERE → d .base + count (shown (d .shape)) ≤ start) ⌝ }
+    ensures { λ _. ⌜ ((o : Operands) → Source (now (values .entry)) (now (flags .entry)) (a .base) (shown (a .shape)) (o .a) → Source (now (values .entry)) (now (flags .entry)) (b .base) (shown (b .shape)) (o .b) → (x .op ≡ WHERE → Source (now (values .entry)) (now (flags .entry)) (d .base) (shown (d .shape)) (o .c)) → Evaluates x (shown r) o (now (values .entry)) (now (flags .entry)) start (now (values .exit)) (now (flags .exit))) ⌝ }
 {
-    let va = operand_view(a);
-    let vb = operand_view(b);
-    let vd = operand_view(d);
-    let w = Walk {
-        grid: views::grid(r),
-        a: va,
-        b: vb,
-        d: vd,
-    };
-    mix_cells(18, w, values, flags, start);
+    let w = mixed_walk(x, r, a, b, d);
+    mix_cells(x.op, w, values, flags, start);
+}
+
+// A walk over as few axes as its views let there be; a binary operation still has its second view twice.
+fn settled(op: usize, w: Walk) -> Walk
+    requires { ⌜ Reaches w (2 ^ 63) × ((op ≡ WHERE → ⊥) → w .d ≡ w .b) ⌝ }
+    ensures { λ t. ⌜ Still w t × ((op ≡ WHERE → ⊥) → t .d ≡ t .b) ⌝ }
+{
+    let t = walking::settle(w);
+    if op == 18 {
+        return t;
+    }
+    let grid = t.grid;
+    let a = t.a;
+    let b = t.b;
+    Walk {
+        grid: grid,
+        a: a,
+        b: b,
+        d: b,
+    }
+}
+
+// A walk as a lane; one without cells where it has more than one row, or goes downwards.
+fn row_lane(op: usize, t: Walk, start: usize) -> Lane
+    requires { ⌜ (0 < cellsOf (t .grid)) × (cellsOf (t .grid) < 2 ^ 63) ⌝ }
+    ensures { λ l. ⌜ (0 < l .n → OneRow t × (l ≡ rowLane op t start)) ⌝ }
+{
+    if walking::rows(t.grid) != 1 {
+        return tiling::no_lane();
+    }
+    if !elementwise::rising(t.a.s3, t.b.s3, t.d.s3) {
+        return tiling::no_lane();
+    }
+    Lane {
+        op: op,
+        n: t.grid.r3,
+        p: t.a.base,
+        a: t.a.s3.up,
+        q: t.b.base,
+        b: t.b.s3.up,
+        u: t.d.base,
+        d: t.d.s3.up,
+        to: start,
+    }
+}
+
+// A node as a lane; one without cells where it is none: another operation, more than one row, or a source that is walked downwards.
+pub fn lane_of(x: Node, r: Shape, a: Operand, b: Operand, d: Operand, start: usize) -> Lane
+    requires { ⌜ Right x (shown (a .shape)) (shown (b .shape)) (shown (d .shape)) (shown r) × (start + count (shown r) < 2 ^ 63) × (uses (x .op) 1 ≡ true → a .base + count (shown (a .shape)) ≤ start) × (uses (x .op) 2 ≡ true → b .base + count (shown (b .shape)) ≤ start) × (uses (x .op) 3 ≡ true → d .base + count (shown (d .shape)) ≤ start) ⌝ }
+    ensures { λ l. ⌜ (0 < l .n → IsLane x (shown (a .shape)) (shown (b .shape)) (shown (d .shape)) (shown r) (a .base) (b .base) (d .base) start l) ⌝ }
+{
+    let op = x.op;
+    if (9 <= op) & (op < 19) {
+        let w = mixed_walk(x, r, a, b, d);
+        let t = settled(op, w);
+        return row_lane(op, t, start);
+    }
+    tiling::no_lane()
 }
 
 // Operations 2 to 8 and LOAD: one source.
@@ -325,16 +378,12 @@ pub fn eval_node(
         eval_param(x, r, given, known, from, values, flags, start);
         return;
     }
-    if op == 18 {
-        eval_where(x, r, a, b, d, values, flags, start);
-        return;
-    }
     if op == 19 {
         eval_reduced(x, a.shape, r, a.base, values, flags, start);
         return;
     }
-    if (9 <= op) & (op < 18) {
-        eval_binary(x, r, a, b, values, flags, start);
+    if (9 <= op) & (op < 19) {
+        eval_mixed(x, r, a, b, d, values, flags, start);
         return;
     }
     eval_moved(x, r, a, values, flags, start);

@@ -3,3 +3,4 @@ pub mod Plans
 pub mod Turns
 pub mod Gaps
 pub mod Endings
+pub mod Grouped

@@ -33,20 +33,15 @@ use Rattle.runner.specs.Inputs.{inputStart, inputCell, inputCells}
 use Rattle.runner.specs.Run.{fieldOf, operandsOf, nodeField, fieldsTo, valueOf, flagOf}
 use Rattle.runner.proofs.Fields.{field-at}
 use Rattle.inputs.specs.Nodes.{nodesOf}
+use Rattle.evaluation.specs.declared.Operand.{Operand}
 use Rattle.evaluation.specs.Standing.{Source, Evaluates, Room, Given}
 use Rattle.evaluation.specs.Ready.{Right, Ready, Reads}
 use Rattle.evaluation.proofs.Turns.{proper-at, node-right}
-use Rattle.running.specs.Running.{laidTo, Checked, Fed, Places}
+use Rattle.running.specs.Running.{laidTo, Checked, Fed, Places, Picks, TurnOf}
 use Rattle.running.proofs.EndToEnd.{total-more, total-whole, laid-more, laid-read, laid-length}
 use Rattle.running.proofs.Plans.{as-many, nodes-meet, input-inside, all-small}
 
 -- ---- a source as the code picks it
-
--- its extents, and where its cells begin
-pub record Picks (ds : List Derived) (i op k : ℕ) (s : NodeNumber) (extents : List ℕ) (base : ℕ) : Type 0 where
-  pub shape : extents ≡ sourceOf (take i ds) op k s .extents
-  pub before : uses op k ≡ true → s .0 < i
-  pub begins : uses op k ≡ true → base ≡ totalOf (take (s .0) ds)
 
 module _ (records : List Record) (n i : ℕ) (long : length records ≡ 256) (few : n ≤ 256) (l : i < n) where
   -- a record that is there, as it was derived
@@ -56,7 +51,7 @@ module _ (records : List Record) (n i : ℕ) (long : length records ≡ 256) (fe
       getD-map viewOf (take n records) j noSource d here ∙ ap viewOf (getD-take n records j d h)
 
   -- the extents of node i
-  pub own-extents : (d : Record) → shown (getD records i d .extents) ≡ getD (nodesOf records n) i noSource .extents
+  own-extents : (d : Record) → shown (getD records i d .extents) ≡ getD (nodesOf records n) i noSource .extents
   own-extents d = sym (ap (λ (d : Derived). d .extents) (view-at d i l))
 
   picks : (starts : List ℕ) → ((j : ℕ) → j < n → getD starts j 0 ≡ totalOf (take j (nodesOf records n)))
@@ -96,7 +91,7 @@ module _ (t : List ℤ) (records : List Record) (n : ℕ) (checked : Checked t r
       (source1-before t i (take i nodes) _ rules, source2-before t i (take i nodes) _ rules, source3-before t i (take i nodes) _ rules)
 
   -- its three sources
-  pub three-picked : (vs₀ : List ℤ) (fs₀ : List ℕ) (starts : List ℕ) → Places (nodesOf records n) starts vs₀ fs₀ → {x : Node} → x ≡ nodeAt t i → {mask : ℕ} → mask ≡ getD masks (x .op) 0
+  three-picked : (vs₀ : List ℤ) (fs₀ : List ℕ) (starts : List ℕ) → Places (nodesOf records n) starts vs₀ fs₀ → {x : Node} → x ≡ nodeAt t i → {mask : ℕ} → mask ≡ getD masks (x .op) 0
       → (d₁ d₂ d₃ : Record) {place₁ place₂ place₃ : ℕ} → (x .source1 .0 < i → place₁ ≡ x .source1 .0) → (x .source2 .0 < i → place₂ ≡ x .source2 .0) → (x .source3 .0 < i → place₃ ≡ x .source3 .0)
       → {sa sb sc : List ℕ} {pa pb pc : ℕ}
       → (sa ≡ cond (eqb (mask / 2 ^ 1 % 2) 1) (shown (getD records place₁ d₁ .extents)) []) × (pa ≡ cond (eqb (mask / 2 ^ 1 % 2) 1) (getD starts place₁ 0) 0)
@@ -112,16 +107,35 @@ module _ (t : List ℤ) (records : List Record) (n : ℕ) (checked : Checked t r
         picks records n i (checked .long) (checked .few) l starts begin d₃ op mask 3 (nodeAt t i .source3) place₃ m (omega arith) (sources-earlier .2) (rw q at at₃) (c .0) (c .1),
       )
 
+  -- its turn as the code makes it ready
+  pub turn-is : (vs₀ : List ℤ) (fs₀ : List ℕ) (starts : List ℕ) → Places (nodesOf records n) starts vs₀ fs₀ → {x : Node} → x ≡ nodeAt t i → {mask : ℕ} → mask ≡ getD masks (x .op) 0
+      → (d d₁ d₂ d₃ : Record) {place₁ place₂ place₃ : ℕ} → (x .source1 .0 < i → place₁ ≡ x .source1 .0) → (x .source2 .0 < i → place₂ ≡ x .source2 .0) → (x .source3 .0 < i → place₃ ≡ x .source3 .0)
+      → {a b c : Operand}
+      → (shown (a .shape) ≡ cond (eqb (mask / 2 ^ 1 % 2) 1) (shown (getD records place₁ d₁ .extents)) []) × (a .base ≡ cond (eqb (mask / 2 ^ 1 % 2) 1) (getD starts place₁ 0) 0)
+      → (shown (b .shape) ≡ cond (eqb (mask / 2 ^ 2 % 2) 1) (shown (getD records place₂ d₂ .extents)) []) × (b .base ≡ cond (eqb (mask / 2 ^ 2 % 2) 1) (getD starts place₂ 0) 0)
+      → (shown (c .shape) ≡ cond (eqb (mask / 2 ^ 3 % 2) 1) (shown (getD records place₃ d₃ .extents)) []) × (c .base ≡ cond (eqb (mask / 2 ^ 3 % 2) 1) (getD starts place₃ 0) 0)
+      → TurnOf t (nodesOf records n) i (record { node = x; shape = getD records i d .extents; a = a; b = b; d = c; start = getD starts i 0 })
+  turn-is vs₀ fs₀ starts places q em d d₁ d₂ d₃ at₁ at₂ at₃ a b c =
+      let three = three-picked vs₀ fs₀ starts places q em d₁ d₂ d₃ at₁ at₂ at₃ a b c in
+      record {
+        node = q;
+        shape = own-extents records n i (checked .long) (checked .few) l d;
+        begins = places .begin i (omega (arith, as-many t records n checked));
+        first = three .0;
+        second = three .1;
+        third = three .2;
+      }
+
   -- its place among all, and the cells before it
   own-room : totalOf (take i (nodesOf records n)) + countOf (getD (nodesOf records n) i noSource) ≤ totalOf (nodesOf records n)
   own-room = total-whole nodes i (omega (arith, as-many t records n checked))
 
   -- a source that it uses: its extents, and its cells end before its own begin
-  picked-extents : (k : ℕ) (s : NodeNumber) (extents : List ℕ) (base : ℕ) → Picks (nodesOf records n) i (nodeAt t i .op) k s extents base → uses (nodeAt t i .op) k ≡ true
+  pub picked-extents : (k : ℕ) (s : NodeNumber) (extents : List ℕ) (base : ℕ) → Picks (nodesOf records n) i (nodeAt t i .op) k s extents base → uses (nodeAt t i .op) k ≡ true
       → extents ≡ getD (nodesOf records n) (s .0) noSource .extents
   picked-extents k s extents base p u = p .shape ∙ ap (λ (d : Derived). d .extents) (source-is nodes i op k s u (p .before u))
 
-  ends : (k : ℕ) (s : NodeNumber) (extents : List ℕ) (base : ℕ) → Picks (nodesOf records n) i (nodeAt t i .op) k s extents base → uses (nodeAt t i .op) k ≡ true
+  pub ends : (k : ℕ) (s : NodeNumber) (extents : List ℕ) (base : ℕ) → Picks (nodesOf records n) i (nodeAt t i .op) k s extents base → uses (nodeAt t i .op) k ≡ true
       → base + count extents ≤ totalOf (take i (nodesOf records n))
   ends k s extents base p u =
       rw (p .begins u, picked-extents k s extents base p u) (total-more nodes (s .0) i (p .before u) (omega (arith, as-many t records n checked)))
@@ -174,7 +188,7 @@ module _ (t : List ℤ) (records : List Record) (n : ℕ) (checked : Checked t r
 
     module _ (pa pb pc : ℕ) (sa sb sc : List ℕ) (first-is : Picks (nodesOf records n) i (nodeAt t i .op) 1 (nodeAt t i .source1) sa pa)
         (second-is : Picks (nodesOf records n) i (nodeAt t i .op) 2 (nodeAt t i .source2) sb pb) (third-is : Picks (nodesOf records n) i (nodeAt t i .op) 3 (nodeAt t i .source3) sc pc) where
-      right : Right (nodeAt t i) sa sb sc (getD (nodesOf records n) i noSource .extents)
+      pub right : Right (nodeAt t i) sa sb sc (getD (nodesOf records n) i noSource .extents)
       right =
           rw (first-is .shape, second-is .shape, third-is .shape) (node-right t n nodes (nodes-meet t records n checked) i l)
 

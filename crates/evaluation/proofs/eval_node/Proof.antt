@@ -1,4 +1,4 @@
-use Rattle.evaluation.proofs.Groups.{const-result, where-uses, reduced-right, reduce-uses, range-binaries, binaries-use, both-right, rest-moves, moves-use, first-right}
+use Rattle.evaluation.proofs.Groups.{const-result, reduced-right, reduce-uses, mixed-range, mixed-uses, where-uses, rest-moves, moves-use, first-right}
 use borrow.Author.Needs.{needs}
 use Rattle.evaluation.proofs.eval_node.Statement.{statement}
 use Rattle.evaluation.proofs.eval_node.Tie as tie
@@ -28,8 +28,8 @@ same-length-4 c = search needs
 returns-2 : tie.Need-returns-2
 returns-2 c = λ o reads. c .before .before .before .eval-param .ensures o (reads .input (c .before .before .before .before .before .before .if2 .taken))
 
-eval-where-requires : tie.Need-eval-where-requires
-eval-where-requires c κs = let p = c .before .before .before .before .before .before .before in let x = p .args .x in let q = p .pre in let e = where-uses (x .op) (c .before .before .if3 .taken) in (c .before .before .if3 .taken, q .right, q .room, q .small, q .first (e .0), q .second (e .1), q .third (e .2))
+eval-reduced-requires : tie.Need-eval-reduced-requires
+eval-reduced-requires c κs = let p = c .before .before .before .before .before .before .before in let x = p .args .x in let q = p .pre in (reduced-right x _ _ _ _ (q .right) (c .before .before .if3 .taken), q .room, q .first (reduce-uses (x .op) (c .before .before .if3 .taken)), q .small)
 
 same-length-5 : tie.Need-same-length-5
 same-length-5 c = search needs
@@ -38,10 +38,10 @@ same-length-6 : tie.Need-same-length-6
 same-length-6 c = search needs
 
 returns-3 : tie.Need-returns-3
-returns-3 c = let e = where-uses _ (c .before .before .before .before .before .before .if3 .taken) in λ o reads. c .before .before .before .eval-where .ensures o (reads .first (e .0)) (reads .second (e .1)) (reads .third (e .2))
+returns-3 c = λ o reads. c .before .before .before .eval-reduced .ensures o (reads .first (reduce-uses _ (c .before .before .before .before .before .before .if3 .taken)))
 
-eval-reduced-requires : tie.Need-eval-reduced-requires
-eval-reduced-requires c κs = let p = c .before .before .before .before .before .before .before .before in let x = p .args .x in let q = p .pre in (reduced-right x _ _ _ _ (q .right) (c .before .before .if4 .taken), q .room, q .first (reduce-uses (x .op) (c .before .before .if4 .taken)), q .small)
+eval-mixed-requires : tie.Need-eval-mixed-requires
+eval-mixed-requires c κs = let p = c .before .before .before .before .before .before .before .before in let x = p .args .x in let q = p .pre in let m = mixed-range (x .op) (c .before .before .if4 .taken) in let e = mixed-uses (x .op) (m .0) (m .1) in (m .0, m .1, q .right, q .room, q .small, q .first (e .0), q .second (e .1), λ w. q .third (where-uses (x .op) w))
 
 same-length-7 : tie.Need-same-length-7
 same-length-7 c = search needs
@@ -50,10 +50,10 @@ same-length-8 : tie.Need-same-length-8
 same-length-8 c = search needs
 
 returns-4 : tie.Need-returns-4
-returns-4 c = λ o reads. c .before .before .before .eval-reduced .ensures o (reads .first (reduce-uses _ (c .before .before .before .before .before .before .if4 .taken)))
+returns-4 c = let x = c .before .before .before .before .before .before .before .before .before .before .before .before .args .x in let m = mixed-range (x .op) (c .before .before .before .before .before .before .if4 .taken) in let e = mixed-uses (x .op) (m .0) (m .1) in λ o reads. c .before .before .before .eval-mixed .ensures o (reads .first (e .0)) (reads .second (e .1)) (λ w. reads .third (where-uses (x .op) w))
 
-eval-binary-requires : tie.Need-eval-binary-requires
-eval-binary-requires c κs = let p = c .before .before .before .before .before .before .before .before .before in let x = p .args .x in let q = p .pre in let m = range-binaries (x .op) (c .before .before .if5 .taken) in let e = binaries-use (x .op) m in (m, both-right x _ _ _ _ (q .right) m, q .room, q .small, q .first (e .0), q .second (e .1))
+eval-moved-requires : tie.Need-eval-moved-requires
+eval-moved-requires c κs = let p = c .before .before .before .before .before .before .before .before in let x = p .args .x in let q = p .pre in let m = rest-moves (x .op) (q .right .known) (c .before .before .before .before .before .if1 .left) (c .before .before .before .before .if2 .left) (c .before .before .before .if3 .left) (c .before .before .if4 .left) in (m, first-right x _ _ _ _ (q .right) m, q .room, q .first (moves-use (x .op) m))
 
 same-length-9 : tie.Need-same-length-9
 same-length-9 c = search needs
@@ -62,19 +62,7 @@ same-length-10 : tie.Need-same-length-10
 same-length-10 c = search needs
 
 returns-5 : tie.Need-returns-5
-returns-5 c = let p = c .before .before .before .before .before .before .before .before .before .before .before .before .before in let e = binaries-use (p .args .x .op) (range-binaries (p .args .x .op) (c .before .before .before .before .before .before .if5 .taken)) in λ o reads. c .before .before .before .eval-binary .ensures o (reads .first (e .0)) (reads .second (e .1))
-
-eval-moved-requires : tie.Need-eval-moved-requires
-eval-moved-requires c κs = let p = c .before .before .before .before .before .before .before .before .before in let x = p .args .x in let q = p .pre in let m = rest-moves (x .op) (q .right .known) (c .before .before .before .before .before .before .if1 .left) (c .before .before .before .before .before .if2 .left) (c .before .before .before .before .if3 .left) (c .before .before .before .if4 .left) (c .before .before .if5 .left) in (m, first-right x _ _ _ _ (q .right) m, q .room, q .first (moves-use (x .op) m))
-
-same-length-11 : tie.Need-same-length-11
-same-length-11 c = search needs
-
-same-length-12 : tie.Need-same-length-12
-same-length-12 c = search needs
-
-returns-6 : tie.Need-returns-6
-returns-6 c = let p = c .before .before .before .before .before .before .before .before .before .before .before .before .before in let m = rest-moves (p .args .x .op) (p .pre .right .known) (c .before .before .before .before .before .before .before .before .before .before .if1 .left) (c .before .before .before .before .before .before .before .before .before .if2 .left) (c .before .before .before .before .before .before .before .before .if3 .left) (c .before .before .before .before .before .before .before .if4 .left) (c .before .before .before .before .before .before .if5 .left) in λ o reads. c .before .before .before .eval-moved .ensures o (reads .first (moves-use (p .args .x .op) m))
+returns-5 c = let p = c .before .before .before .before .before .before .before .before .before .before .before .before in let m = rest-moves (p .args .x .op) (p .pre .right .known) (c .before .before .before .before .before .before .before .before .before .if1 .left) (c .before .before .before .before .before .before .before .before .if2 .left) (c .before .before .before .before .before .before .before .if3 .left) (c .before .before .before .before .before .before .if4 .left) in λ o reads. c .before .before .before .eval-moved .ensures o (reads .first (moves-use (p .args .x .op) m))
 
 pub eval-node-spec : {M : Type 1} → statement M
 eval-node-spec =
@@ -88,19 +76,15 @@ eval-node-spec =
     same-length-3
     same-length-4
     returns-2
-    eval-where-requires
+    eval-reduced-requires
     same-length-5
     same-length-6
     returns-3
-    eval-reduced-requires
+    eval-mixed-requires
     same-length-7
     same-length-8
     returns-4
-    eval-binary-requires
+    eval-moved-requires
     same-length-9
     same-length-10
-    returns-5
-    eval-moved-requires
-    same-length-11
-    same-length-12
-    returns-6)
+    returns-5)
