@@ -15,8 +15,8 @@ except ImportError:
     sys.exit('bench: this Python has no numpy; Debian has it as python3-numpy')
 
 WORDS = 17
-ROUNDS = 10
-REPEATS = 4
+ROUNDS = 4
+REPEATS = 16
 GOAL = 5
 CONST, PARAM, PAD, WHERE, REDUCE = 0, 1, 6, 18, 19
 BINARY = {9: np.ma.add, 12: np.ma.floor_divide, 13: np.ma.mod, 14: np.ma.less,
@@ -109,7 +109,7 @@ def same(nodes, values, flags, gaps):
 
 
 def best_times(*calls):
-    """The least milliseconds of each call: a few of one, then of the next, on warm buffers."""
+    """The least milliseconds of each call, several of one and then of the next: the first ones find the other's buffers in the caches."""
     best = [float('inf')] * len(calls)
     for k in list(range(len(calls))) * ROUNDS:
         for _ in range(REPEATS):

@@ -172,13 +172,16 @@ static double now(void) {
     return (double)t.tv_sec * 1e6 + (double)t.tv_nsec * 1e-3;
 }
 
+/* Both sides: one run before the clock starts, so that the buffers are as this side's last run left them. */
 static double lup_time(const plan *p, unsigned times) {
+    sink += lup(p).count;
     double start = now();
     for (unsigned i = 0; i < times; i++) sink += lup(p).count;
     return (now() - start) / times;
 }
 
 static double plain_time(const plan *p, void (*rest)(const plan *), unsigned times) {
+    sink += plain(p, rest);
     double start = now();
     for (unsigned i = 0; i < times; i++) sink += plain(p, rest);
     return (now() - start) / times;
@@ -317,11 +320,14 @@ static int growth_point(const bench_row *row, unsigned power, double *lup_cost, 
     return 1;
 }
 
-/* The cost a cell of the straight line that lies nearest, by factors: the geometric mean. */
+/* The cost a cell of the straight line through 0 whose largest factor to a cost is the least. */
 static double line_through(const double *costs) {
-    double logs = 0;
-    for (unsigned i = 0; i < SIZES; i++) logs += log(costs[i]);
-    return exp(logs / SIZES);
+    double least = costs[0], most = costs[0];
+    for (unsigned i = 1; i < SIZES; i++) {
+        least = fmin(least, costs[i]);
+        most = fmax(most, costs[i]);
+    }
+    return sqrt(least * most);
 }
 
 static int growth_table(const bench_row *row) {

@@ -21,6 +21,10 @@ Run = namedtuple('Run', 'note table values flags')
 class Chain(cases.Plan):
     """A plan of up to 256 nodes; only the new node is checked."""
 
+    def __init__(self, most_elements, widest=40):
+        super().__init__(most_elements)
+        self.widest = widest
+
     def add(self, words):
         if words is None or len(self.records) == model.MOST_NODES:
             return False
@@ -29,7 +33,7 @@ class Chain(cases.Plan):
             return False
         device = max(model.result_devices(fresh), default=0)
         record = model.Record(model.result_dtype(fresh), device, *model.result_interval(fresh), model.result_extents(fresh))
-        if prod(record.extents) > 40 or self.total() + prod(record.extents) > self.most:
+        if prod(record.extents) > self.widest or self.total() + prod(record.extents) > self.most:
             return False
         self.table, self.records = self.table + words, [*self.records, record]
         return True
@@ -51,6 +55,16 @@ def depth(table):
         sources = [table[first + word] for word in (1, 2, 3) if word in model.USED_WORDS[table[first]]]
         lengths.append(1 + max((lengths[source] for source in sources), default=0))
     return max(lengths)
+
+
+def longest_group(table, records):
+    """The most binary operations and WHEREs of one size that stand one after another."""
+    most = size = length = 0
+    for k, record in enumerate(records):
+        mixes, count = ADD <= table[17 * k] <= WHERE, prod(record.extents)
+        length = length + 1 if mixes and length and count == size else int(mixes)
+        most, size = max(most, length), count
+    return most
 
 
 def params_of(table):
@@ -101,6 +115,25 @@ def chain_runs(rng, count):
                 break
             plan.add(cases.propose(late, plan, late.choice(range(21)), base))
         yield Run(f'chain {turn}', plan.table, *inputs_of(rng, plan.table, rng.choice((0, 0.02, 0.1))))
+
+
+def grouped_runs(rng, count):
+    """Binary operations and WHEREs of one size and two shapes one after another, few other nodes between them; sizes about what is done at once."""
+    late, mixing = Late(rng.randrange(2 ** 32)), range(ADD, WHERE + 1)
+    for turn in range(count):
+        half = (1, 2, 4, 512, 513)[turn % 5]
+        nodes = rng.choice((20, 60)) if half > 4 else rng.choice((20, 60, 120))
+        plan = Chain(nodes * 2 * half, 2 * half)
+        kinds = [(I16, -9, 9), (I16, 2, 9), (0, 0, 1)]
+        for slot, (shape, kind) in enumerate(product(((2 * half,), (2, half), ()), kinds)):
+            plan.add(param(slot, *kind, shape))
+        others = [] if turn % 3 else [FLIP, CAST, LOAD, 0]
+        for _ in range(8 * nodes):
+            op = late.choice(others) if others and late.random() < 0.05 else late.choice(mixing)
+            plan.add(cases.propose(late, plan, op, (2, half)))
+        note, share = f'grouped {turn}', rng.choice((0, 0.001, 0.1))
+        yield Run(note, plan.table, *inputs_of(rng, plan.table, share))
+        yield Run(note + ', gaps at edges', plan.table, *at_edges(rng, plan.table))
 
 
 # --------------------------------------------------- every way of the movements

@@ -27,7 +27,7 @@ class Met:
 
     def __init__(self):
         self.answers, self.cells, self.under_gaps = collections.Counter(), collections.Counter(), set()
-        self.plans, self.again, self.deepest, self.most_nodes = 0, 0, 0, 0
+        self.plans, self.again, self.deepest, self.most_nodes, self.longest_group = 0, 0, 0, 0, 0
 
     def completed(self, run, records):
         self.plans += 1
@@ -35,6 +35,7 @@ class Met:
         self.under_gaps.update(value for value, flag in zip(run.values, run.flags) if flag == 0)
         self.deepest = max(self.deepest, run_cases.depth(run.table))
         self.most_nodes = max(self.most_nodes, len(records))
+        self.longest_group = max(self.longest_group, run_cases.longest_group(run.table, records))
 
 
 def flag_pattern(room):
@@ -158,7 +159,7 @@ def test_run(compared, rng, run, turn):
 
 
 def test_accepted(compared, rng, count):
-    runs = [run_cases.fixed_runs(rng), run_cases.chain_runs(rng, count // 50), run_cases.random_runs(rng, count)]
+    runs = [run_cases.fixed_runs(rng), run_cases.chain_runs(rng, count // 50), run_cases.grouped_runs(rng, count // 200), run_cases.random_runs(rng, count)]
     turn = 0
     for several in runs:
         for run in several:
@@ -230,14 +231,15 @@ def test_large(compared):
 
 def test_met(tally, met, count):
     print('run answers met:', ', '.join('%d: %d times' % item for item in sorted(met.answers.items())))
-    print('%d plans completed, %d of them again with other numbers under gaps; longest chain %d; most nodes %d'
-          % (met.plans, met.again, met.deepest, met.most_nodes))
+    print('%d plans completed, %d of them again with other numbers under gaps; longest chain %d; most nodes %d; longest group %d'
+          % (met.plans, met.again, met.deepest, met.most_nodes, met.longest_group))
     print('each operation in', ', '.join('%d: %d' % (op, sum(n for (o, _), n in met.cells.items() if o == op)) for op in range(21)), 'nodes')
     tally.same('plans enough', met.plans >= count, True)
     tally.same('run answers met', sorted(met.answers), [*range(17)])
     tally.same('operations and ranks met', sorted(OPERATIONS_AND_RANKS - set(met.cells)), [])
     tally.same('the least and the greatest word under gaps', sorted(EXTREMES - met.under_gaps), [])
     tally.same('some chain is long', met.deepest >= 20, True)
+    tally.same('some group is longer than what is run at once', met.longest_group > 32, True)
 
 
 def main():

@@ -13,10 +13,9 @@ ghost use Rattle.views.specs.Views.{cellsOf, reach};
 ghost use Rattle.moving.specs.Moved.{moved};
 ghost use Rattle.plan.specs.Operations.{WHERE, uses};
 ghost use Rattle.plan.specs.Words.{element, listOf};
-ghost use Rattle.shapes.specs.Sources.{broadcastSource};
 ghost use Rattle.shapes.proofs.Broadcast.{Spreads};
 ghost use Rattle.shapes.proofs.Extents.{Positive};
-ghost use Rattle.views.specs.Walks.{InFront, Walks};
+ghost use Rattle.views.specs.Walks.{InFront};
 ghost use Rattle.elementwise.specs.Mixing.{mixedValues};
 ghost use Rattle.validity.specs.Flags.{mixedFlags};
 ghost use Rattle.views.specs.Numbers.{SmallBefore};
@@ -25,7 +24,7 @@ ghost use Rattle.evaluation.specs.Ready.{Proper, Right, Ready, Reads};
 ghost use Rattle.cells.specs.Nodes.{Operands};
 ghost use Rattle.walking.specs.Movements.{Viewed};
 ghost use Rattle.evaluation.specs.Standing.{Source, Evaluates, Room, Given, copied, moves, Padded, Reduced};
-ghost use Rattle.evaluation.specs.Spread.{Spread, OneRow, rowLane, IsLane};
+ghost use Rattle.evaluation.specs.Spread.{Spreading, Spread, OneRow, rowLane, IsLane};
 ghost use lib.Dec.{eqb};
 use plan::Node;
 use plan::Row;
@@ -159,7 +158,7 @@ pub struct Operand {
 // The view of an operand that is broadcast.
 fn operand_view(a: Operand) -> View
     requires { ⌜ Proper (shown (a .shape)) ⌝ }
-    ensures { λ v. ⌜ ((r : List ℕ) (R : Row) → InFront 1 r R → Positive r → Spreads (shown (a .shape)) r → Walks R v (a .base) (count r) (count (shown (a .shape))) (λ (e : ℕ). broadcastSource (shown (a .shape)) r (element e) .0)) ⌝ }
+    ensures { λ v. ⌜ ((r : List ℕ) (R : Row) → InFront 1 r R → Positive r → Spreads (shown (a .shape)) r → Spreading R v (a .base) (shown (a .shape)) r) ⌝ }
 {
     views::spread_view(a.base, views::grid(a.shape))
 }

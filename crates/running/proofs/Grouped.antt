@@ -103,7 +103,7 @@ module _ (t : List ℤ) (records : List Record) (n : ℕ) (checked : Checked t r
         (λ o reads. is .evaluates _ _ o reads)
 
     -- it waits with lanes that start at place `first`
-    pub lane-joins : (first : ℕ) → Near first (l .p) (l .a) → Near first (l .q) (l .b) → Near first (l .u) (l .d) → Joins t (nodesOf records n) (inputCells given known) vs₀ fs₀ i (l .n) first l
+    lane-joins : (first : ℕ) → Near first (l .p) (l .a) → Near first (l .q) (l .b) → Near first (l .u) (l .d) → Joins t (nodesOf records n) (inputCells given known) vs₀ fs₀ i (l .n) first l
     lane-joins first near1 near2 near3 =
         let second : Reach nodes i (l .n) first (l .q) (l .b) = picked-reach 2 (nodeAt t i .source2) _ _ first _ _ (turn .second) (uses-both .1) (is .second) near2 in
         record {
@@ -121,7 +121,7 @@ module _ (t : List ℤ) (records : List Record) (n : ℕ) (checked : Checked t r
         }
 
     -- its sources begin before it
-    pub lane-after : (l .p < l .to) × (l .q < l .to) × (l .u < l .to)
+    lane-after : (l .p < l .to) × (l .q < l .to) × (l .u < l .to)
     lane-after =
         let second : l .q < l .to = before 2 (nodeAt t i .source2) _ _ _ _ (turn .second) (uses-both .1) (is .second) in (
           before 1 (nodeAt t i .source1) _ _ _ _ (turn .first) (uses-both .0) (is .first),
@@ -231,7 +231,7 @@ module _ (t : List ℤ) (records : List Record) (n : ℕ) (checked : Checked t r
   -- ---- after a turn
 
   -- the node joins those that wait
-  pub more-wait : (i : ℕ) (w r : Pending) (vs : List ℤ) (fs : List ℕ) (l : Lane) (wait : Waiting t (nodesOf records n) (inputCells given known) vs₀ fs₀ i w vs fs) → 0 < w .size → w .size < 32
+  more-wait : (i : ℕ) (w r : Pending) (vs : List ℤ) (fs : List ℕ) (l : Lane) (wait : Waiting t (nodesOf records n) (inputCells given known) vs₀ fs₀ i w vs fs) → 0 < w .size → w .size < 32
       → Joins t (nodesOf records n) (inputCells given known) vs₀ fs₀ i (w .n) (w .first) l → r .lanes ≡ set (w .lanes) (w .size) l → r .size ≡ w .size + 1 → r .n ≡ w .n → r .first ≡ w .first
       → Waiting t (nodesOf records n) (inputCells given known) vs₀ fs₀ (i + 1) r vs fs
   more-wait i w r vs fs l wait some few joins el es en ef =
@@ -255,7 +255,7 @@ module _ (t : List ℤ) (records : List Record) (n : ℕ) (checked : Checked t r
           (eq-or-lt-of-le h)
 
   -- it waits alone
-  pub one-waits : (i : ℕ) (r : Pending) (vs : List ℤ) (fs : List ℕ) (l : Lane) → 0 < l .n → vs ≡ laidTo valueOf t (nodesOf records n) (inputCells given known) i vs₀ → fs ≡ laidTo flagOf t (nodesOf records n) (inputCells given known) i fs₀
+  one-waits : (i : ℕ) (r : Pending) (vs : List ℤ) (fs : List ℕ) (l : Lane) → 0 < l .n → vs ≡ laidTo valueOf t (nodesOf records n) (inputCells given known) i vs₀ → fs ≡ laidTo flagOf t (nodesOf records n) (inputCells given known) i fs₀
       → Joins t (nodesOf records n) (inputCells given known) vs₀ fs₀ i (l .n) (l .to) l → (r .lanes ≡ replicate 32 l) × (r .size ≡ 1) × (r .n ≡ l .n) × (r .first ≡ l .to)
       → Waiting t (nodesOf records n) (inputCells given known) vs₀ fs₀ (i + 1) r vs fs
   one-waits i r vs fs l some ev ef joins e =

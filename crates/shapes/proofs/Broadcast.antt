@@ -102,7 +102,7 @@ module _ (s t : List ℕ) (p : Positive s) (q : Positive t) (agree : canBroadcas
 -- ---- the operands of a binary operation and of a WHERE
 
 module _ (x : Node) (s t u : List ℕ) where
-  pub binary-extents : among (x .op) binaries ≡ true → resultExtents x s t u ≡ broadcast s t
+  binary-extents : among (x .op) binaries ≡ true → resultExtents x s t u ≡ broadcast s t
   unfolding resultExtents among
   binary-extents =
       for-group (λ (k : ℕ). byOperation k (resultRules x s t u) [] ≡ broadcast s t) (x .op) binaries

@@ -43,7 +43,7 @@ module _ (ls : List Lane) (g n : ℕ) (lanes : Lanes ls g n) where
 
   -- a source's cell e lies before its lane, and is done when e is
   module _ (x p up : ℕ) (l : x < g) (early : Early ls n x p up) where
-    pub early-span : 0 < n → p + span n (strideOf up 0) < laneOf ls x .to
+    early-span : 0 < n → p + span n (strideOf up 0) < laneOf ls x .to
     unfolding span
     early-span some =
         ⊎-elim
@@ -51,10 +51,10 @@ module _ (ls : List Lane) (g n : ℕ) (lanes : Lanes ls g n) where
         (λ (w : Within ls x p up). rw (w .begins, w .unit) (omega (arith, order (w .lane) x (w .earlier) l)))
         early
 
-    pub early-place : (e : ℕ) → e < n → p + step n (strideOf up 0) e < laneOf ls x .to
+    early-place : (e : ℕ) → e < n → p + step n (strideOf up 0) e < laneOf ls x .to
     early-place e h = omega (arith, early-span (omega arith), step-le n (strideOf up 0) e h)
 
-    pub early-done : (k m e : ℕ) → e < n → e < k + m → Done ls g n k m x (p + step n (strideOf up 0) e)
+    early-done : (k m e : ℕ) → e < n → e < k + m → Done ls g n k m x (p + step n (strideOf up 0) e)
     early-done k m e h t y few low high =
         ⊎-elim
         (λ (w : p + span n (strideOf up 0) < laneOf ls 0 .to).
