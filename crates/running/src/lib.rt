@@ -48,6 +48,20 @@ pub struct Turn {
     pub start: usize,
 }
 
+// A turn from its parts.
+fn ready_turn(x: Node, e: Shape, a: Operand, b: Operand, d: Operand, start: usize) -> Turn
+    ensures { λ u. ⌜ u ≡ record { node = x; shape = e; a = a; b = b; d = d; start = start } ⌝ }
+{
+    Turn {
+        node: x,
+        shape: e,
+        a: a,
+        b: b,
+        d: d,
+        start: start,
+    }
+}
+
 // Nodes that wait to be run together: `size` lanes of n cells, the first from place `first` on.
 pub struct Pending {
     pub lanes: [Lane; 32],
@@ -173,14 +187,7 @@ fn run_turns(
         let d = operand(mask, 3, records[place3], starts[place3]);
         let r = records[i];
         let e = r.extents;
-        let u = Turn {
-            node: x,
-            shape: e,
-            a: a,
-            b: b,
-            d: d,
-            start: starts[i],
-        };
+        let u = ready_turn(x, e, a, b, d, starts[i]);
         w = take_turn(u, w, given, known, from, values, flags);
         from += inputs::input_size(x.op, r);
         i += 1;

@@ -109,50 +109,53 @@ mul-r c = let p = c .before .before .before .before .before .before .before .bef
 array-copy-out-r : tie.Need-array-copy-out-r Inv-loop μ-loop
 array-copy-out-r c = let p = c .before .before .before .before .before .before .before .before .before .before .before in omega (arith, p .loop-test .taken, c .before .before .before .before .before .before .before .before .before .before .before .before .before .before .before .before .before .pre .0 .few)
 
-mul-t34 : tie.Need-mul-t34 Inv-loop μ-loop
-mul-t34 c = let p = c .before .before .before .before .before .before .before .before .before .before .before .before .before in omega (arith, p .loop-test .taken, c .before .before .before .before .before .before .before .before .before .before .before .before .before .before .before .before .before .before .before .pre .0 .few)
+mul-ready-turn : tie.Need-mul-ready-turn Inv-loop μ-loop
+mul-ready-turn c = let p = c .before .before .before .before .before .before .before .before .before .before .before .before .before in omega (arith, p .loop-test .taken, c .before .before .before .before .before .before .before .before .before .before .before .before .before .before .before .before .before .before .before .pre .0 .few)
 
-array-read-t31 : tie.Need-array-read-t31 Inv-loop μ-loop
-array-read-t31 c = let p = c .before .before .before .before .before .before .before .before .before .before .before .before .before in omega (arith, p .loop-test .taken, c .before .before .before .before .before .before .before .before .before .before .before .before .before .before .before .before .before .before .before .pre .0 .few)
+array-read-ready-turn : tie.Need-array-read-ready-turn Inv-loop μ-loop
+array-read-ready-turn c = let p = c .before .before .before .before .before .before .before .before .before .before .before .before .before in omega (arith, p .loop-test .taken, c .before .before .before .before .before .before .before .before .before .before .before .before .before .before .before .before .before .before .before .pre .0 .few)
+
+ready-turn-requires : tie.Need-ready-turn-requires Inv-loop μ-loop
+ready-turn-requires c κs = search needs
 
 take-turn-requires : tie.Need-take-turn-requires Inv-loop μ-loop
 take-turn-requires c κs =
-    let s = c .before .before .before .before .before .before .before .before .before .before .before .before .before .before .before .before .before .before .before .before .before in
+    let s = c .before .before .before .before .before .before .before .before .before .before .before .before .before .before .before .before .before .before .before .before .before .before in
     let a = s .args in
-    let t = c .before .before .before .before .before .before .before .before .before .before .before .before .before .before .before .before .loop in
-    let l = c .before .before .before .before .before .before .before .before .before .before .before .before .before .before .before .loop-test .taken in
-    let turn = turn-is (a .table .now) (a .t2) (a .count) (s .pre .0) (t .i) l (a .values .now) (a .flags .now) (a .t4) (s .pre .2) (c .before .before .before .before .before .before .before .before .before .before .before .before .before .before .node-at .ensures) (c .before .before .before .before .before .before .before .before .before .before .before .before .before .used-mask .ensures) _ _ _ _ (c .before .before .before .before .before .before .before .before .before .before .before .before .source-place .ensures .1) (c .before .before .before .before .before .before .before .before .before .before .before .source-place2 .ensures .1) (c .before .before .before .before .before .before .before .before .before .before .source-place3 .ensures .1) (c .before .before .before .before .before .before .before .before .operand .ensures) (c .before .before .before .before .before .before .operand2 .ensures) (c .before .before .before .before .operand3 .ensures) in
-    record { t = a .table .now; records = a .t2; n = a .count; starts = a .t4; i = t .i; vs = a .values .now; fs = a .flags .now; is = record { checked = s .pre .0; fed = s .pre .1; places = s .pre .2; inside = l; turn = turn; input = t .inv .2; waiting = t .inv .3 } }
+    let t = c .before .before .before .before .before .before .before .before .before .before .before .before .before .before .before .before .before .loop in
+    let l = c .before .before .before .before .before .before .before .before .before .before .before .before .before .before .before .before .loop-test .taken in
+    let turn = turn-is (a .table .now) (a .t2) (a .count) (s .pre .0) (t .i) l (a .values .now) (a .flags .now) (a .t4) (s .pre .2) (c .before .before .before .before .before .before .before .before .before .before .before .before .before .before .before .node-at .ensures) (c .before .before .before .before .before .before .before .before .before .before .before .before .before .before .used-mask .ensures) _ _ _ _ (c .before .before .before .before .before .before .before .before .before .before .before .before .before .source-place .ensures .1) (c .before .before .before .before .before .before .before .before .before .before .before .before .source-place2 .ensures .1) (c .before .before .before .before .before .before .before .before .before .before .before .source-place3 .ensures .1) (c .before .before .before .before .before .before .before .before .before .operand .ensures) (c .before .before .before .before .before .before .before .operand2 .ensures) (c .before .before .before .before .before .operand3 .ensures) in
+    record { t = a .table .now; records = a .t2; n = a .count; starts = a .t4; i = t .i; vs = a .values .now; fs = a .flags .now; is = record { checked = s .pre .0; fed = s .pre .1; places = s .pre .2; inside = l; turn = rw (c .before .before .ready-turn .ensures) turn; input = t .inv .2; waiting = t .inv .3 } }
 
 input-size-requires : tie.Need-input-size-requires Inv-loop μ-loop
 input-size-requires c κs =
-    let s = c .before .before .before .before .before .before .before .before .before .before .before .before .before .before .before .before .before .before .before .before .before .before .before .before .before in
+    let s = c .before .before .before .before .before .before .before .before .before .before .before .before .before .before .before .before .before .before .before .before .before .before .before .before .before .before in
     let a = s .args in
-    node-limited (a .t2) (a .count) (s .pre .0 .long) (s .pre .0 .few) _ (c .before .before .before .before .before .before .before .before .before .before .before .before .before .before .before .before .before .before .before .before .loop .i) (c .before .before .before .before .before .before .before .before .before .before .before .before .before .before .before .before .before .before .before .loop-test .taken) (limited (a .table .now) (a .t2) (a .count) (s .pre .0))
+    node-limited (a .t2) (a .count) (s .pre .0 .long) (s .pre .0 .few) _ (c .before .before .before .before .before .before .before .before .before .before .before .before .before .before .before .before .before .before .before .before .before .loop .i) (c .before .before .before .before .before .before .before .before .before .before .before .before .before .before .before .before .before .before .before .before .loop-test .taken) (limited (a .table .now) (a .t2) (a .count) (s .pre .0))
 
 add-from : tie.Need-add-from Inv-loop μ-loop
 add-from c =
-    let s = c .before .before .before .before .before .before .before .before .before .before .before .before .before .before .before .before .before .before .before .before .before .before .before .before .before .before in
+    let s = c .before .before .before .before .before .before .before .before .before .before .before .before .before .before .before .before .before .before .before .before .before .before .before .before .before .before .before in
     let a = s .args in
-    let t = c .before .before .before .before .before .before .before .before .before .before .before .before .before .before .before .before .before .before .before .before .before .loop in
-    let part = part-of (a .table .now) (a .t2) (a .count) (s .pre .0 .long) (s .pre .0 .few) _ (t .i) (t .from) _ _ (limited (a .table .now) (a .t2) (a .count) (s .pre .0)) (c .before .before .before .before .before .before .before .before .before .before .before .before .before .before .before .before .before .before .before .before .loop-test .taken) (c .before .before .before .before .before .before .before .before .before .before .before .before .before .before .before .before .before .before .before .node-at .ensures) (c .input-size .ensures) (t .inv .2) in
+    let t = c .before .before .before .before .before .before .before .before .before .before .before .before .before .before .before .before .before .before .before .before .before .before .loop in
+    let part = part-of (a .table .now) (a .t2) (a .count) (s .pre .0 .long) (s .pre .0 .few) _ (t .i) (t .from) _ _ (limited (a .table .now) (a .t2) (a .count) (s .pre .0)) (c .before .before .before .before .before .before .before .before .before .before .before .before .before .before .before .before .before .before .before .before .before .loop-test .taken) (c .before .before .before .before .before .before .before .before .before .before .before .before .before .before .before .before .before .before .before .before .node-at .ensures) (c .input-size .ensures) (t .inv .2) in
     omega (arith, t .inv .0, t .inv .1, s .pre .0 .few, part .few)
 
 add-i : tie.Need-add-i Inv-loop μ-loop
-add-i c = omega (arith, c .before .before .before .before .before .before .before .before .before .before .before .before .before .before .before .before .before .before .before .before .loop-test .taken, c .before .before .before .before .before .before .before .before .before .before .before .before .before .before .before .before .before .before .before .before .before .before .before .before .before .before .pre .0 .few)
+add-i c = omega (arith, c .before .before .before .before .before .before .before .before .before .before .before .before .before .before .before .before .before .before .before .before .before .loop-test .taken, c .before .before .before .before .before .before .before .before .before .before .before .before .before .before .before .before .before .before .before .before .before .before .before .before .before .before .before .pre .0 .few)
 
 loop-less : tie.Need-loop-less Inv-loop μ-loop
-loop-less c = omega (arith, c .before .before .before .before .before .before .before .before .before .before .before .before .before .before .before .before .before .before .before .before .loop-test .taken)
+loop-less c = omega (arith, c .before .before .before .before .before .before .before .before .before .before .before .before .before .before .before .before .before .before .before .before .before .loop-test .taken)
 
 loop-again : tie.Need-loop-again Inv-loop μ-loop
 loop-again c =
-    let s = c .before .before .before .before .before .before .before .before .before .before .before .before .before .before .before .before .before .before .before .before .before .before .before .before .before .before in
+    let s = c .before .before .before .before .before .before .before .before .before .before .before .before .before .before .before .before .before .before .before .before .before .before .before .before .before .before .before in
     let a = s .args in
-    let t = c .before .before .before .before .before .before .before .before .before .before .before .before .before .before .before .before .before .before .before .before .before .loop in
-    let l = c .before .before .before .before .before .before .before .before .before .before .before .before .before .before .before .before .before .before .before .before .loop-test .taken in
-    let turn = turn-is (a .table .now) (a .t2) (a .count) (s .pre .0) (t .i) l (a .values .now) (a .flags .now) (a .t4) (s .pre .2) (c .before .before .before .before .before .before .before .before .before .before .before .before .before .before .before .before .before .before .before .node-at .ensures) (c .before .before .before .before .before .before .before .before .before .before .before .before .before .before .before .before .before .before .used-mask .ensures) _ _ _ _ (c .before .before .before .before .before .before .before .before .before .before .before .before .before .before .before .before .before .source-place .ensures .1) (c .before .before .before .before .before .before .before .before .before .before .before .before .before .before .before .before .source-place2 .ensures .1) (c .before .before .before .before .before .before .before .before .before .before .before .before .before .before .before .source-place3 .ensures .1) (c .before .before .before .before .before .before .before .before .before .before .before .before .before .operand .ensures) (c .before .before .before .before .before .before .before .before .before .before .before .operand2 .ensures) (c .before .before .before .before .before .before .before .before .before .operand3 .ensures) in
-    let part = part-of (a .table .now) (a .t2) (a .count) (s .pre .0 .long) (s .pre .0 .few) _ (t .i) (t .from) _ _ (limited (a .table .now) (a .t2) (a .count) (s .pre .0)) (c .before .before .before .before .before .before .before .before .before .before .before .before .before .before .before .before .before .before .before .before .loop-test .taken) (c .before .before .before .before .before .before .before .before .before .before .before .before .before .before .before .before .before .before .before .node-at .ensures) (c .input-size .ensures) (t .inv .2) in
-    (omega (arith, l), omega (arith, t .inv .1, part .few), part .next, c .before .before .before .before .take-turn .ensures _ _ _ _ _ _ _ (record { checked = s .pre .0; fed = s .pre .1; places = s .pre .2; inside = l; turn = turn; input = t .inv .2; waiting = t .inv .3 }))
+    let t = c .before .before .before .before .before .before .before .before .before .before .before .before .before .before .before .before .before .before .before .before .before .before .loop in
+    let l = c .before .before .before .before .before .before .before .before .before .before .before .before .before .before .before .before .before .before .before .before .before .loop-test .taken in
+    let turn = turn-is (a .table .now) (a .t2) (a .count) (s .pre .0) (t .i) l (a .values .now) (a .flags .now) (a .t4) (s .pre .2) (c .before .before .before .before .before .before .before .before .before .before .before .before .before .before .before .before .before .before .before .before .node-at .ensures) (c .before .before .before .before .before .before .before .before .before .before .before .before .before .before .before .before .before .before .before .used-mask .ensures) _ _ _ _ (c .before .before .before .before .before .before .before .before .before .before .before .before .before .before .before .before .before .before .source-place .ensures .1) (c .before .before .before .before .before .before .before .before .before .before .before .before .before .before .before .before .before .source-place2 .ensures .1) (c .before .before .before .before .before .before .before .before .before .before .before .before .before .before .before .before .source-place3 .ensures .1) (c .before .before .before .before .before .before .before .before .before .before .before .before .before .before .operand .ensures) (c .before .before .before .before .before .before .before .before .before .before .before .before .operand2 .ensures) (c .before .before .before .before .before .before .before .before .before .before .operand3 .ensures) in
+    let part = part-of (a .table .now) (a .t2) (a .count) (s .pre .0 .long) (s .pre .0 .few) _ (t .i) (t .from) _ _ (limited (a .table .now) (a .t2) (a .count) (s .pre .0)) (c .before .before .before .before .before .before .before .before .before .before .before .before .before .before .before .before .before .before .before .before .before .loop-test .taken) (c .before .before .before .before .before .before .before .before .before .before .before .before .before .before .before .before .before .before .before .before .node-at .ensures) (c .input-size .ensures) (t .inv .2) in
+    (omega (arith, l), omega (arith, t .inv .1, part .few), part .next, c .before .before .before .before .take-turn .ensures _ _ _ _ _ _ _ (record { checked = s .pre .0; fed = s .pre .1; places = s .pre .2; inside = l; turn = rw (c .before .before .before .before .before .before .before .ready-turn .ensures) turn; input = t .inv .2; waiting = t .inv .3 }))
 
 same-length : tie.Need-same-length Inv-loop μ-loop
 same-length c =
@@ -203,8 +206,9 @@ run-turns-spec =
     operand-requires-3
     mul-r
     array-copy-out-r
-    mul-t34
-    array-read-t31
+    mul-ready-turn
+    array-read-ready-turn
+    ready-turn-requires
     take-turn-requires
     input-size-requires
     add-from
