@@ -32,7 +32,7 @@ use Rattle.inputs.proofs.Sizes.{total-next}
 use Rattle.views.specs.Views.{strideOf, span}
 use Rattle.views.specs.Numbers.{SmallBefore}
 use Rattle.tiling.specs.declared.Lane.{Lane}
-use Rattle.tiling.specs.Lanes.{Buffers, laneOf, laneValues, laneFlags, laned, Early, Lanes, LaneRoom}
+use Rattle.tiling.specs.Lanes.{laneOf, laneValues, laneFlags, laned, Early, Lanes, LaneRoom}
 use Rattle.cells.specs.Nodes.{Operands}
 use Rattle.evaluation.specs.Standing.{Evaluates}
 use Rattle.evaluation.specs.Ready.{Right, Ready, Reads}
@@ -200,9 +200,6 @@ module _ (t : List ℤ) (records : List Record) (n : ℕ) (checked : Checked t r
         }
 
     -- after x lanes the buffers hold x nodes more
-    abbrev after : ℕ → Buffers
-    after x = laned (w .lanes) (record { values = vs; flags = fs }) x
-
     lanes-laid : (x : ℕ) → x ≤ w .size
         → (laned (w .lanes) (record { values = vs; flags = fs }) x .values ≡ laidTo valueOf t (nodesOf records n) (inputCells given known) (wait .done + x) vs₀)
         × (laned (w .lanes) (record { values = vs; flags = fs }) x .flags ≡ laidTo flagOf t (nodesOf records n) (inputCells given known) (wait .done + x) fs₀)
