@@ -302,22 +302,36 @@ static void moves_plain(const plan *p) {
     plain_add(part(p, 3), part(p, 0), part(p, 2), cells_of(p, 0));
 }
 
-/* Nanoseconds a cell of a plan of 2^power cells, by both sides; 0 where they differ. */
-static int growth_point(const bench_row *row, unsigned power, double *lup_cost, double *plain_cost) {
-    size_t count = (size_t)1 << power;
-    unsigned repeats = (unsigned)(MOST_CELLS / 4 / count) + 1;
-    quarter = (shape){(size_t)1 << ((power - 2) / 2), (size_t)1 << ((power - 1) / 2)};
-    plan p = {0};
-    row->build(&p);
-    fill_input(&p, row->gaps, given, known);
-    if (!agree(row->what, &p, row->rest)) return 0;
-    double best_lup = 1e12, best_plain = 1e12;
-    for (unsigned r = 0; r < ROUNDS; r++) {
-        lower(&best_lup, lup_time(&p, repeats));
-        lower(&best_plain, plain_time(&p, row->rest, repeats));
+/* The plans of a growth, and the input of the largest: all PARAMs have the same limits, so that each plan's input is the first part of it. */
+static plan grown[SIZES];
+
+static void size_of(unsigned i) { quarter = (shape){(size_t)1 << ((LEAST + i - 2) / 2), (size_t)1 << ((LEAST + i - 1) / 2)}; }
+
+static int grow(const bench_row *row) {
+    for (unsigned i = 0; i < SIZES; i++) {
+        size_of(i);
+        grown[i] = (plan){0};
+        row->build(grown + i);
     }
-    *lup_cost = best_lup * 1e3 / (double)count, *plain_cost = best_plain * 1e3 / (double)count;
+    fill_input(grown + SIZES - 1, row->gaps, given, known);
+    for (unsigned i = 0; i < SIZES; i++) {
+        size_of(i);
+        if (!agree(row->what, grown + i, row->rest)) return 0;
+    }
     return 1;
+}
+
+/* Nanoseconds a cell by both sides, the best of all rounds. Each round has every size in turn, so that a slow minute of the machine is one of all sizes. */
+static void growth_costs(const bench_row *row, double *lup_costs, double *plain_costs) {
+    for (unsigned i = 0; i < SIZES; i++) lup_costs[i] = plain_costs[i] = 1e12;
+    for (unsigned r = 0; r < ROUNDS; r++)
+        for (unsigned i = 0; i < SIZES; i++) {
+            size_t count = (size_t)1 << (LEAST + i);
+            unsigned repeats = (unsigned)(MOST_CELLS / 4 / count) + 1;
+            size_of(i);
+            lower(lup_costs + i, lup_time(grown + i, repeats) * 1e3 / (double)count);
+            lower(plain_costs + i, plain_time(grown + i, row->rest, repeats) * 1e3 / (double)count);
+        }
 }
 
 /* The cost a cell of the straight line through 0 whose largest factor to a cost is the least. */
@@ -330,23 +344,39 @@ static double line_through(const double *costs) {
     return sqrt(least * most);
 }
 
+static double mean_of(const double *costs) {
+    double sum = 0;
+    for (unsigned i = 0; i < SIZES; i++) sum += log(costs[i]);
+    return exp(sum / SIZES);
+}
+
+static double largest_factor(const double *costs, double line) {
+    double largest = 1;
+    for (unsigned i = 0; i < SIZES; i++) largest = fmax(largest, fmax(costs[i] / line, line / costs[i]));
+    return largest;
+}
+
 static int growth_table(const bench_row *row) {
     double lup_costs[SIZES], plain_costs[SIZES];
-    for (unsigned i = 0; i < SIZES; i++)
-        if (!growth_point(row, LEAST + i, lup_costs + i, plain_costs + i)) return 0;
+    if (!grow(row)) return 0;
+    growth_costs(row, lup_costs, plain_costs);
     double lup_line = line_through(lup_costs), plain_line = line_through(plain_costs);
     printf("\n%s, best of %d rounds, nanoseconds a cell; lines at %.2f and %.2f\n\n", row->what, ROUNDS, lup_line, plain_line);
     printf("| cells of all nodes | library | of its line | plain C | of its line | ratio |\n|---|---|---|---|---|---|\n");
     for (unsigned i = 0; i < SIZES; i++)
         printf("| 2^%u | %.2f | %.2f | %.2f | %.2f | %.2f |\n", LEAST + i, lup_costs[i], lup_costs[i] / lup_line, plain_costs[i],
                plain_costs[i] / plain_line, lup_costs[i] / plain_costs[i]);
+    double largest = largest_factor(lup_costs, lup_line);
+    printf("\nlargest factor %.2f, plain C %.2f; goal %.1f%s (to the geometric mean %.2f, plain C %.2f)\n", largest,
+           largest_factor(plain_costs, plain_line), row->goal, largest > row->goal ? ", missed" : "",
+           largest_factor(lup_costs, mean_of(lup_costs)), largest_factor(plain_costs, mean_of(plain_costs)));
     fflush(stdout);
     return 1;
 }
 
 static const bench_row growths[] = {
-    {"growth: two PARAMs, CMPLT, WHERE", 0, SEVERAL, cells_build, cells_plain},
-    {"growth: PARAM, FLIP, FLIP, ADD", 0, SEVERAL, moves_build, moves_plain},
+    {"growth: two PARAMs, CMPLT, WHERE", 1.5, SEVERAL, cells_build, cells_plain},
+    {"growth: PARAM, FLIP, FLIP, ADD", 1.5, SEVERAL, moves_build, moves_plain},
 };
 
 /* ---- the joining plan for numpy ---- */

@@ -57,14 +57,14 @@ def depth(table):
     return max(lengths)
 
 
-def longest_group(table, records):
-    """The most binary operations and WHEREs of one size that stand one after another."""
-    most = size = length = 0
+def groups(table, records):
+    """The binary operations and WHEREs of one size that stand one after another: of each how many so far, and their size."""
+    size = length = 0
     for k, record in enumerate(records):
         mixes, count = ADD <= table[17 * k] <= WHERE, prod(record.extents)
         length = length + 1 if mixes and length and count == size else int(mixes)
-        most, size = max(most, length), count
-    return most
+        size = count
+        yield length, size
 
 
 def params_of(table):
@@ -117,23 +117,28 @@ def chain_runs(rng, count):
         yield Run(f'chain {turn}', plan.table, *inputs_of(rng, plan.table, rng.choice((0, 0.02, 0.1))))
 
 
+def grouped_plan(late, half, nodes, others):
+    """Binary operations and WHEREs of 2 * half cells in two shapes one after another, few other nodes between them."""
+    plan = Chain(nodes * 2 * half, 2 * half)
+    kinds = [(I16, -9, 9), (I16, 2, 9), (0, 0, 1)]
+    for slot, (shape, kind) in enumerate(product(((2 * half,), (2, half), ()), kinds)):
+        plan.add(param(slot, *kind, shape))
+    for _ in range(8 * nodes):
+        op = late.choice(others) if others and late.random() < 0.05 else late.choice(range(ADD, WHERE + 1))
+        plan.add(cases.propose(late, plan, op, (2, half)))
+    return plan.table
+
+
 def grouped_runs(rng, count):
-    """Binary operations and WHEREs of one size and two shapes one after another, few other nodes between them; sizes about what is done at once."""
-    late, mixing = Late(rng.randrange(2 ** 32)), range(ADD, WHERE + 1)
-    for turn in range(count):
-        half = (1, 2, 4, 512, 513)[turn % 5]
-        nodes = rng.choice((20, 60)) if half > 4 else rng.choice((20, 60, 120))
-        plan = Chain(nodes * 2 * half, 2 * half)
-        kinds = [(I16, -9, 9), (I16, 2, 9), (0, 0, 1)]
-        for slot, (shape, kind) in enumerate(product(((2 * half,), (2, half), ()), kinds)):
-            plan.add(param(slot, *kind, shape))
-        others = [] if turn % 3 else [FLIP, CAST, LOAD, 0]
-        for _ in range(8 * nodes):
-            op = late.choice(others) if others and late.random() < 0.05 else late.choice(mixing)
-            plan.add(cases.propose(late, plan, op, (2, half)))
+    """Groups of sizes about what is done at once: a few cells, 1024 cells, a tile of 16384, several tiles."""
+    late = Late(rng.randrange(2 ** 32))
+    sizes = [(1, 2, 4, 512, 513)[turn % 5] for turn in range(count)] + [8191, 8192, 8193, 16385]
+    for turn, half in enumerate(sizes):
+        nodes = 18 if half > 513 else rng.choice((20, 60)) if half > 4 else rng.choice((20, 60, 120))
+        table = grouped_plan(late, half, nodes, [] if turn % 3 else [FLIP, CAST, LOAD, 0])
         note, share = f'grouped {turn}', rng.choice((0, 0.001, 0.1))
-        yield Run(note, plan.table, *inputs_of(rng, plan.table, share))
-        yield Run(note + ', gaps at edges', plan.table, *at_edges(rng, plan.table))
+        yield Run(note, table, *inputs_of(rng, table, share))
+        yield Run(note + ', gaps at edges', table, *at_edges(rng, table))
 
 
 # --------------------------------------------------- every way of the movements

@@ -27,7 +27,7 @@ class Met:
 
     def __init__(self):
         self.answers, self.cells, self.under_gaps = collections.Counter(), collections.Counter(), set()
-        self.plans, self.again, self.deepest, self.most_nodes, self.longest_group = 0, 0, 0, 0, 0
+        self.plans, self.again, self.deepest, self.most_nodes, self.longest_group, self.widest_group = 0, 0, 0, 0, 0, 0
 
     def completed(self, run, records):
         self.plans += 1
@@ -35,7 +35,9 @@ class Met:
         self.under_gaps.update(value for value, flag in zip(run.values, run.flags) if flag == 0)
         self.deepest = max(self.deepest, run_cases.depth(run.table))
         self.most_nodes = max(self.most_nodes, len(records))
-        self.longest_group = max(self.longest_group, run_cases.longest_group(run.table, records))
+        for length, size in run_cases.groups(run.table, records):
+            self.longest_group = max(self.longest_group, length)
+            self.widest_group = max(self.widest_group, size if length > 1 else 0)
 
 
 def flag_pattern(room):
@@ -231,15 +233,16 @@ def test_large(compared):
 
 def test_met(tally, met, count):
     print('run answers met:', ', '.join('%d: %d times' % item for item in sorted(met.answers.items())))
-    print('%d plans completed, %d of them again with other numbers under gaps; longest chain %d; most nodes %d; longest group %d'
-          % (met.plans, met.again, met.deepest, met.most_nodes, met.longest_group))
+    print('%d plans completed, %d of them again with other numbers under gaps; longest chain %d; most nodes %d; longest group %d, widest %d cells'
+          % (met.plans, met.again, met.deepest, met.most_nodes, met.longest_group, met.widest_group))
     print('each operation in', ', '.join('%d: %d' % (op, sum(n for (o, _), n in met.cells.items() if o == op)) for op in range(21)), 'nodes')
     tally.same('plans enough', met.plans >= count, True)
     tally.same('run answers met', sorted(met.answers), [*range(17)])
     tally.same('operations and ranks met', sorted(OPERATIONS_AND_RANKS - set(met.cells)), [])
     tally.same('the least and the greatest word under gaps', sorted(EXTREMES - met.under_gaps), [])
     tally.same('some chain is long', met.deepest >= 20, True)
-    tally.same('some group is longer than what is run at once', met.longest_group > 32, True)
+    tally.same('some group is longer than what is run at once', met.longest_group > 3 * 8, True)
+    tally.same('some group is over several tiles', met.widest_group > 2 * 16384, True)
 
 
 def main():

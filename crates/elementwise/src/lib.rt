@@ -214,16 +214,16 @@ pub fn rising(a: Stride, b: Stride, d: Stride) -> bool
     (a.down == 0) & ((b.down == 0) & (d.down == 0))
 }
 
-// The next part of what is left of a row.
-pub fn part(left: usize) -> usize
-    requires { ⌜ 0 < left ⌝ }
+// The next part, of at most `most` cells, of what is left.
+pub fn part(left: usize, most: usize) -> usize
+    requires { ⌜ (0 < left) × (0 < most) ⌝ }
     ensures { λ r. ⌜ (0 < r) × (r ≤ left) ⌝ }
 {
-    if left < 1024 { left } else { 1024 }
+    if left < most { left } else { most }
 }
 
 // The cells of a row in parts of 1024: what one loop leaves in the nearest cache the next finds there.
-fn mix_parts(
+pub fn mix_parts(
     values: &mut [i64],
     flags: &mut [u8],
     op: usize,
@@ -241,7 +241,7 @@ fn mix_parts(
 {
     let mut i = 0;
     while i < n {
-        let m = part(n - i);
+        let m = part(n - i, 1024);
         let k = p + i * a.up;
         let l = q + i * b.up;
         let o = u + i * d.up;

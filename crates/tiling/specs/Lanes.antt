@@ -53,8 +53,8 @@ Early ls n x p up = (p + span n (strideOf up 0) < laneOf ls 0 .to) ⊎ Within ls
 
 -- g lanes of n cells, end to end
 pub record Lanes (ls : List Lane) (g n : ℕ) : Type 0 where
-  pub long : length ls ≡ 32
-  pub few : g ≤ 32
+  pub long : length ls ≡ 8
+  pub few : g ≤ 8
   pub size : (x : ℕ) → x < g → laneOf ls x .n ≡ n
   pub operation : (x : ℕ) → x < g → (9 ≤ laneOf ls x .op) × (laneOf ls x .op < 19)
   pub next : (x : ℕ) → suc x < g → laneOf ls (suc x) .to ≡ laneOf ls x .to + n

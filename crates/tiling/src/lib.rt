@@ -54,12 +54,12 @@ fn mix_part(l: Lane, k: usize, m: usize, values: &mut [i64], flags: &mut [u8])
     let p = l.p + k * l.a;
     let q = l.q + k * l.b;
     let u = l.u + k * l.d;
-    elementwise::mix_row(values, flags, l.op, m, p, a, q, b, u, d, l.to + k);
+    elementwise::mix_parts(values, flags, l.op, m, p, a, q, b, u, d, l.to + k);
 }
 
 // Cells k to k + m - 1 of every lane.
 fn mix_tile(
-    lanes: [Lane; 32],
+    lanes: [Lane; 8],
     g: usize,
     n: usize,
     k: usize,
@@ -78,13 +78,13 @@ fn mix_tile(
 }
 
 // Every lane.
-pub fn mix_lanes(lanes: [Lane; 32], g: usize, n: usize, values: &mut [i64], flags: &mut [u8])
+pub fn mix_lanes(lanes: [Lane; 8], g: usize, n: usize, values: &mut [i64], flags: &mut [u8])
     requires { ⌜ Lanes lanes g n × LaneRoom lanes g n (now values) (now flags) × ((x : ℕ) → x < g → SmallBefore (laned lanes (record { values = now values; flags = now flags }) g .values) (laneOf lanes x .to)) ⌝ }
     ensures { λ _. ⌜ (now (values .exit) ≡ laned lanes (record { values = now (values .entry); flags = now (flags .entry) }) g .values) × (now (flags .exit) ≡ laned lanes (record { values = now (values .entry); flags = now (flags .entry) }) g .flags) ⌝ }
 {
     let mut k = 0;
     while k < n {
-        let m = elementwise::part(n - k);
+        let m = elementwise::part(n - k, 16384);
         mix_tile(lanes, g, n, k, m, values, flags);
         k += m;
     }

@@ -1,5 +1,6 @@
 -- The flags that a binary operation and WHERE leave in their buffer, 1 known, 0 a gap; and numbers under flags.
 use Prim.Native.Nat.{ℕ}
+use mathlib.Core.Path.{_≡_}
 use mathlib.Core.Bool.{_&&_, cond}
 use mathlib.Core.List.{List}
 use lib.Dec.{eqb}
@@ -11,6 +12,7 @@ use Rattle.plan.specs.declared.Row.{Row}
 use Rattle.plan.specs.Operations.{WHERE}
 use Rattle.views.specs.declared.View.{View}
 use Rattle.views.specs.Views.{cellsOf, place}
+use Rattle.validity.specs.declared.Sides.{Sides}
 
 -- the flag of the result, from three cells; a binary operation looks at two
 unfoldable pub mixFlag : ℕ → ℤ → ℕ → ℤ → ℕ → ℤ → ℕ → ℕ
@@ -22,6 +24,17 @@ sideOf x = cond (sameZ x (pos 0)) 0 1
 
 abbrev pub sideFlag : ℕ → ℕ → ℕ → ℕ → ℕ
 sideFlag s f g h = cond (eqb f 1) (cond (eqb s 0) h g) 0
+
+-- eight sides are those of f
+pub record AreSides (f : ℕ → ℕ) (s : Sides) : Type 0 where
+  pub at0 : s .s0 ≡ f 0
+  pub at1 : s .s1 ≡ f 1
+  pub at2 : s .s2 ≡ f 2
+  pub at3 : s .s3 ≡ f 3
+  pub at4 : s .s4 ≡ f 4
+  pub at5 : s .s5 ≡ f 5
+  pub at6 : s .s6 ≡ f 6
+  pub at7 : s .s7 ≡ f 7
 
 -- from the side at place t and the flags at three places
 abbrev pub chosenFlag : List ℕ → ℕ → ℕ → ℕ → ℕ → ℕ

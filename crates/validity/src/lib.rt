@@ -6,7 +6,7 @@ ghost use lib.IntN.{ℤ, pos};
 ghost use lib.ListN.{length, getD};
 ghost use Rattle.laws.specs.Store.{store};
 ghost use Rattle.views.specs.Views.{strideOf, step, span};
-ghost use Rattle.validity.specs.Flags.{mixFlag, sideOf, sideFlag, chosenFlag, clearedValue, three};
+ghost use Rattle.validity.specs.Flags.{mixFlag, sideOf, sideFlag, chosenFlag, clearedValue, three, AreSides};
 use views::Stride;
 
 // The first view steps by x and the other two by y.
@@ -107,6 +107,15 @@ fn side(x: i64) -> u8
     if x == 0 { 0 } else { 1 }
 }
 
+// The side of the cell at place k.
+fn side_at(values: &[i64], k: usize) -> u8
+    requires { ⌜ k < length (now values) ⌝ }
+    ensures { λ r. ⌜ r ≡ sideOf (getD (now (values .entry)) k (pos 0)) ⌝ }
+{
+    let x = values[k];
+    side(x)
+}
+
 // The flag of the side taken; 0 where the condition is a gap.
 fn side_flag(s: u8, f: u8, g: u8, h: u8) -> u8
     ensures { λ r. ⌜ r ≡ sideFlag s f g h ⌝ }
@@ -128,10 +137,53 @@ fn row_sides(values: &[i64], flags: &mut [u8], n: usize, p: usize, a: Stride, to
     let mut i = 0;
     while i < n {
         let k = p + views::step_at(n, a, i);
-        let x = values[k];
-        flags[to + i] = side(x);
+        flags[to + i] = side_at(values, k);
         i += 1;
     }
+}
+
+// The sides of eight cells.
+pub struct Sides {
+    pub s0: u8,
+    pub s1: u8,
+    pub s2: u8,
+    pub s3: u8,
+    pub s4: u8,
+    pub s5: u8,
+    pub s6: u8,
+    pub s7: u8,
+}
+
+// The sides of the cells from place p on.
+fn read_sides(values: &[i64], p: usize) -> Sides
+    requires { ⌜ p + 8 ≤ length (now values) ⌝ }
+    ensures { λ r. ⌜ AreSides (λ (j : ℕ). sideOf (getD (now (values .entry)) (p + j) (pos 0))) r ⌝ }
+{
+    Sides {
+        s0: side_at(values, p),
+        s1: side_at(values, p + 1),
+        s2: side_at(values, p + 2),
+        s3: side_at(values, p + 3),
+        s4: side_at(values, p + 4),
+        s5: side_at(values, p + 5),
+        s6: side_at(values, p + 6),
+        s7: side_at(values, p + 7),
+    }
+}
+
+// Eight sides in the places from `to` on.
+fn write_sides(flags: &mut [u8], to: usize, s: Sides)
+    requires { ⌜ to + 8 ≤ length (now flags) ⌝ }
+    ensures { λ _. ⌜ ((f : ℕ → ℕ) → AreSides f s → now (flags .exit) ≡ store (now (flags .entry)) to 8 f) × (length (now (flags .exit)) ≡ length (now (flags .entry))) ⌝ }
+{
+    flags[to] = s.s0;
+    flags[to + 1] = s.s1;
+    flags[to + 2] = s.s2;
+    flags[to + 3] = s.s3;
+    flags[to + 4] = s.s4;
+    flags[to + 5] = s.s5;
+    flags[to + 6] = s.s6;
+    flags[to + 7] = s.s7;
 }
 
 // The sides of eight cells: all are read before one is written, so that the machine finds them together.
@@ -139,22 +191,8 @@ fn eight_sides(values: &[i64], flags: &mut [u8], p: usize, to: usize)
     requires { ⌜ (p + 8 ≤ length (now values)) × (to + 8 ≤ length (now flags)) ⌝ }
     ensures { λ _. ⌜ now (flags .exit) ≡ store (now (flags .entry)) to 8 (λ (j : ℕ). sideOf (getD (now (values .entry)) (p + j) (pos 0))) ⌝ }
 {
-    let x0 = values[p];
-    let x1 = values[p + 1];
-    let x2 = values[p + 2];
-    let x3 = values[p + 3];
-    let x4 = values[p + 4];
-    let x5 = values[p + 5];
-    let x6 = values[p + 6];
-    let x7 = values[p + 7];
-    flags[to] = side(x0);
-    flags[to + 1] = side(x1);
-    flags[to + 2] = side(x2);
-    flags[to + 3] = side(x3);
-    flags[to + 4] = side(x4);
-    flags[to + 5] = side(x5);
-    flags[to + 6] = side(x6);
-    flags[to + 7] = side(x7);
+    let s = read_sides(values, p);
+    write_sides(flags, to, s);
 }
 
 // The sides of a row of a WHERE that goes from place to place.

@@ -47,15 +47,18 @@ add-u c =
     let a = s .args in
     omega (arith, part-start (strideOf (a .l .d) 0) refl (a .l .n) (a .m) (a .k) (s .pre .fits) (s .pre .some), s .pre .third, s .pre .values, s .good .0)
 
-add-mix-row : tie.Need-add-mix-row
-add-mix-row c = let s = c .before .before .before .before .before .before .before .before .before .before in omega (arith, s .pre .fits, s .pre .values, s .good .0)
+add-mix-parts : tie.Need-add-mix-parts
+add-mix-parts c = let s = c .before .before .before .before .before .before .before .before .before .before in omega (arith, s .pre .fits, s .pre .values, s .good .0)
 
-mix-row-requires : tie.Need-mix-row-requires
-mix-row-requires c κs =
+mix-parts-requires : tie.Need-mix-parts-requires
+mix-parts-requires c κs =
     let s = c .before .before .before .before .before .before .before .before .before .before in
     let a = s .args in
     let l = a .l in
     let p = s .pre in (
+      refl,
+      refl,
+      refl,
       p .operation .0,
       p .operation .1,
       part-below (strideOf (l .a) 0) refl (l .n) (a .m) (a .k) (p .fits) (l .p) (l .to) (p .some) (p .first),
@@ -77,7 +80,7 @@ returns : tie.Need-returns
 returns c =
     let s = c .before .before .before .before .before .before .before .before .before .before .before .before .before .before in
     let a = s .args in
-    let h = c .before .before .before .mix-row .ensures in (
+    let h = c .before .before .before .mix-parts .ensures in (
       h .0 ∙ store-same (a .values .now) (a .l .to + a .k) (a .m) _ _ (λ c w. part-cell mixValue (a .l) (a .k) (a .m) (s .pre .fits) (a .values .now) (a .flags .now) c),
       h .1 ∙ store-same (a .flags .now) (a .l .to + a .k) (a .m) _ _ (λ c w. part-cell mixFlag (a .l) (a .k) (a .m) (s .pre .fits) (a .values .now) (a .flags .now) c),
     )
@@ -92,8 +95,8 @@ mix-part-spec =
     add-q
     mul-u
     add-u
-    add-mix-row
-    mix-row-requires
+    add-mix-parts
+    mix-parts-requires
     same-length
     same-length-2
     returns)

@@ -5,7 +5,6 @@ use borrow.Author.Needs.{needs}
 use lib.IntN.{pos}
 use lib.ListN.{length, getD, length-set}
 use Rattle.laws.specs.Store.{store}
-use Rattle.laws.proofs.Machine.{R-is, fit-at}
 use Rattle.laws.proofs.Store.{store-none, store-step, store-done}
 use Rattle.views.specs.Views.{step}
 use Rattle.validity.specs.Flags.{sideOf}
@@ -29,14 +28,8 @@ step-at-requires c κs = search needs
 add-k : tie.Need-add-k Inv-loop μ-loop
 add-k c = search needs
 
-mul-x : tie.Need-mul-x Inv-loop μ-loop
-mul-x c = search needs
-
-shared-slice-copy-out-x : tie.Need-shared-slice-copy-out-x Inv-loop μ-loop
-shared-slice-copy-out-x c = search needs
-
-side-requires : tie.Need-side-requires Inv-loop μ-loop
-side-requires c κs = search needs
+side-at-requires : tie.Need-side-at-requires Inv-loop μ-loop
+side-at-requires c κs = search needs
 
 add-flags : tie.Need-add-flags Inv-loop μ-loop
 add-flags c = search needs
@@ -52,12 +45,12 @@ loop-less c = search needs
 
 loop-again : tie.Need-loop-again Inv-loop μ-loop
 loop-again c =
-    let i = c .before .before .before .before in
+    let i = c .before .before .before in
     let s = i .before .before in
-    let place = c .before .before .step-at .ensures .0 in (
-      omega (arith, c .before .before .before .loop-test .taken),
+    let place = c .before .step-at .ensures .0 in (
+      omega (arith, c .before .before .loop-test .taken),
       rw length-set (i .loop .inv .1),
-      store-step _ _ _ _ _ _ (i .loop .inv .2) (c .side .ensures ∙ side-read (s .args .values .now) (R-is (fit-at _ (c .before .x .given))) (omega (arith, place))),
+      store-step _ _ _ _ _ _ (i .loop .inv .2) (c .side-at .ensures ∙ side-read (s .args .values .now) refl (omega (arith, place))),
     )
 
 same-length : tie.Need-same-length Inv-loop μ-loop
@@ -75,9 +68,7 @@ row-sides-spec =
     loop-holds
     step-at-requires
     add-k
-    mul-x
-    shared-slice-copy-out-x
-    side-requires
+    side-at-requires
     add-flags
     slice-write-flags
     add-i

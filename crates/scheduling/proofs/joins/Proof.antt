@@ -2,8 +2,8 @@ use mathlib.Core.Bool.{false≢true}
 use native.Mathlib.Omega.{arith}
 use borrow.Author.Needs.{needs}
 use Rattle.laws.proofs.Booleans.{and-true}
-use Rattle.running.proofs.joins.Statement.{statement}
-use Rattle.running.proofs.joins.Tie as tie
+use Rattle.scheduling.proofs.joins.Statement.{statement}
+use Rattle.scheduling.proofs.joins.Tie as tie
 
 returns : tie.Need-returns
 returns c = λ e. absurd (false≢true e)

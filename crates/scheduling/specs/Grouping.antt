@@ -15,9 +15,9 @@ use Rattle.inputs.specs.Nodes.{nodesOf}
 use Rattle.views.specs.Views.{strideOf, span}
 use Rattle.tiling.specs.declared.Lane.{Lane}
 use Rattle.tiling.specs.Lanes.{laneOf, laneValues, laneFlags}
-use Rattle.running.specs.declared.Pending.{Pending}
-use Rattle.running.specs.declared.Turn.{Turn}
-use Rattle.running.specs.Running.{laidTo, Checked, Fed, Places, TurnOf}
+use Rattle.scheduling.specs.declared.Pending.{Pending}
+use Rattle.scheduling.specs.declared.Turn.{Turn}
+use Rattle.scheduling.specs.Running.{laidTo, Checked, Fed, Places, TurnOf}
 
 -- a source of a lane starts before the lanes do, or is walked cell by cell
 abbrev pub Near : ℕ → ℕ → ℕ → Type 0
@@ -47,8 +47,8 @@ pub record Joins (t : List ℤ) (ds : List Derived) (input : List Cell) (vs : Li
 pub record Waiting (t : List ℤ) (ds : List Derived) (input : List Cell) (vs : List ℤ) (fs : List ℕ) (i : ℕ) (w : Pending) (vs′ : List ℤ) (fs′ : List ℕ) : Type 0 where
   pub done : ℕ
   pub all : done + w .size ≡ i
-  pub long : length (w .lanes) ≡ 32
-  pub few : w .size ≤ 32
+  pub long : length (w .lanes) ≡ 8
+  pub few : w .size ≤ 8
   pub begins : 0 < w .size → w .first ≡ totalOf (take done ds)
   pub some : 0 < w .size → 0 < w .n
   pub lanes : (x : ℕ) → x < w .size → Joins t ds input vs fs (done + x) (w .n) (w .first) (laneOf (w .lanes) x)

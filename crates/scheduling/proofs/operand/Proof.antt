@@ -1,8 +1,8 @@
 use mathlib.Core.Path.{refl, sym, ap, _∙_}
 use Rattle.rules.specs.Rules.{Derived}
 use borrow.Author.Needs.{needs}
-use Rattle.running.proofs.operand.Statement.{statement}
-use Rattle.running.proofs.operand.Tie as tie
+use Rattle.scheduling.proofs.operand.Statement.{statement}
+use Rattle.scheduling.proofs.operand.Tie as tie
 
 uses-word-requires : tie.Need-uses-word-requires
 uses-word-requires c κs = search needs

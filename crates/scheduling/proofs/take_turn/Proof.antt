@@ -1,8 +1,8 @@
 use native.Mathlib.Omega.{arith}
 use borrow.Author.Needs.{needs}
-use Rattle.running.proofs.Grouped.{asks-lane, asks-group, turn-joins, turn-waits, asks-node, turn-ends}
-use Rattle.running.proofs.take_turn.Statement.{statement}
-use Rattle.running.proofs.take_turn.Tie as tie
+use Rattle.scheduling.proofs.Grouped.{asks-lane, asks-group, turn-joins, turn-waits, asks-node, turn-ends}
+use Rattle.scheduling.proofs.take_turn.Statement.{statement}
+use Rattle.scheduling.proofs.take_turn.Tie as tie
 
 lane-of-requires : tie.Need-lane-of-requires
 lane-of-requires c κs = let s = c .before .before in asks-lane (s .pre .is) (omega (arith, s .good .1 .1 .1 .1 .1 .0))

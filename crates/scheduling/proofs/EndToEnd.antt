@@ -25,7 +25,7 @@ use Rattle.cells.specs.Nodes.{evalCell}
 use Rattle.cells.proofs.Nodes.{node-count, node-cell}
 use Rattle.runner.specs.Run.{operandsOf, nodeField, fieldsTo, allCells}
 use Rattle.inputs.proofs.Sizes.{total-none, total-next}
-use Rattle.running.specs.Running.{laidTo}
+use Rattle.scheduling.specs.Running.{laidTo}
 
 -- each element in turn
 each-map : {A B : Type 0} (f : A → B) (xs : List A) (d : A) → map f xs ≡ tab (length xs) (λ (p : ℕ). f (getD xs p d))

@@ -37,9 +37,9 @@ use Rattle.evaluation.specs.declared.Operand.{Operand}
 use Rattle.evaluation.specs.Standing.{Source, Evaluates, Room, Given}
 use Rattle.evaluation.specs.Ready.{Right, Ready, Reads}
 use Rattle.evaluation.proofs.Turns.{proper-at, node-right}
-use Rattle.running.specs.Running.{laidTo, Checked, Fed, Places, Picks, TurnOf}
-use Rattle.running.proofs.EndToEnd.{total-more, total-whole, laid-more, laid-read, laid-length}
-use Rattle.running.proofs.Plans.{as-many, nodes-meet, input-inside, all-small}
+use Rattle.scheduling.specs.Running.{laidTo, Checked, Fed, Places, Picks, TurnOf}
+use Rattle.scheduling.proofs.EndToEnd.{total-more, total-whole, laid-more, laid-read, laid-length}
+use Rattle.scheduling.proofs.Plans.{as-many, nodes-meet, input-inside, all-small}
 
 -- ---- a source as the code picks it
 

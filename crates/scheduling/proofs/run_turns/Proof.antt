@@ -6,13 +6,13 @@ use Rattle.runner.specs.Inputs.{inputStart, inputCells}
 use Rattle.runner.specs.Run.{valueOf, flagOf}
 use Rattle.inputs.specs.Nodes.{nodesOf}
 use Rattle.inputs.proofs.Sizes.{start-none, node-limited, part-of}
-use Rattle.running.specs.Grouping.{Waiting}
-use Rattle.running.proofs.EndToEnd.{laid-none, laid-length}
-use Rattle.running.proofs.Plans.{table-long, limited}
-use Rattle.running.proofs.Turns.{turn-is}
-use Rattle.running.proofs.Grouped.{none-wait}
-use Rattle.running.proofs.run_turns.Statement.{statement}
-use Rattle.running.proofs.run_turns.Tie as tie
+use Rattle.scheduling.specs.Grouping.{Waiting}
+use Rattle.scheduling.proofs.EndToEnd.{laid-none, laid-length}
+use Rattle.scheduling.proofs.Plans.{table-long, limited}
+use Rattle.scheduling.proofs.Turns.{turn-is}
+use Rattle.scheduling.proofs.Grouped.{none-wait}
+use Rattle.scheduling.proofs.run_turns.Statement.{statement}
+use Rattle.scheduling.proofs.run_turns.Tie as tie
 
 abbrev Inv-loop : tie.InvT-loop
 Inv-loop table count given known values₀ flags₀ records starts from₀ w₀ i₀ values flags from w i =

@@ -1,8 +1,8 @@
 use native.Mathlib.Omega.{arith}
 use borrow.Author.Needs.{needs}
-use Rattle.running.proofs.Grouped.{group-lanes, group-room, group-small, group-run}
-use Rattle.running.proofs.run_nodes.Statement.{statement}
-use Rattle.running.proofs.run_nodes.Tie as tie
+use Rattle.scheduling.proofs.Grouped.{group-lanes, group-room, group-small, group-run}
+use Rattle.scheduling.proofs.run_nodes.Statement.{statement}
+use Rattle.scheduling.proofs.run_nodes.Tie as tie
 
 run-turns-requires : tie.Need-run-turns-requires
 run-turns-requires c κs = search needs

@@ -18,7 +18,7 @@ use Rattle.cells.specs.Cells.{Cell, gap}
 use Rattle.runner.specs.Inputs.{inputLimits, testInputs}
 use Rattle.runner.specs.Run.{fieldsTo, allCells}
 use Rattle.inputs.specs.Nodes.{nodesOf}
-use Rattle.running.specs.declared.Turn.{Turn}
+use Rattle.scheduling.specs.declared.Turn.{Turn}
 
 -- a buffer with what f shows of the cells of the first i nodes, end to end
 abbrev pub laidTo : {A : Type 0} → (Cell → A) → List ℤ → List Derived → List Cell → ℕ → List A → List A

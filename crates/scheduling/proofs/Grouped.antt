@@ -38,13 +38,13 @@ use Rattle.evaluation.specs.Standing.{Evaluates}
 use Rattle.evaluation.specs.Ready.{Right, Ready, Reads}
 use Rattle.evaluation.specs.Spread.{Under, IsLane}
 use Rattle.evaluation.proofs.Groups.{mixed-uses, where-uses}
-use Rattle.running.specs.declared.Pending.{Pending}
-use Rattle.running.specs.declared.Turn.{Turn}
-use Rattle.running.specs.Running.{laidTo, Checked, Fed, Places, Picks, TurnOf}
-use Rattle.running.specs.Grouping.{Near, Reach, Joins, Waiting, Turning}
-use Rattle.running.proofs.EndToEnd.{total-more, total-whole, laid-length}
-use Rattle.running.proofs.Plans.{as-many, all-small}
-use Rattle.running.proofs.Turns.{picked-extents, ends, right, ready, one-more}
+use Rattle.scheduling.specs.declared.Pending.{Pending}
+use Rattle.scheduling.specs.declared.Turn.{Turn}
+use Rattle.scheduling.specs.Running.{laidTo, Checked, Fed, Places, Picks, TurnOf}
+use Rattle.scheduling.specs.Grouping.{Near, Reach, Joins, Waiting, Turning}
+use Rattle.scheduling.proofs.EndToEnd.{total-more, total-whole, laid-length}
+use Rattle.scheduling.proofs.Plans.{as-many, all-small}
+use Rattle.scheduling.proofs.Turns.{picked-extents, ends, right, ready, one-more}
 
 -- the first nodes have no more cells than all
 total-part : (t : List ℤ) (records : List Record) (n : ℕ) → Checked t records n → (k : ℕ) → k ≤ n → totalOf (take k (nodesOf records n)) ≤ totalOf (nodesOf records n)
@@ -228,7 +228,7 @@ module _ (t : List ℤ) (records : List Record) (n : ℕ) (checked : Checked t r
   -- ---- after a turn
 
   -- the node joins those that wait
-  more-wait : (i : ℕ) (w r : Pending) (vs : List ℤ) (fs : List ℕ) (l : Lane) (wait : Waiting t (nodesOf records n) (inputCells given known) vs₀ fs₀ i w vs fs) → 0 < w .size → w .size < 32
+  more-wait : (i : ℕ) (w r : Pending) (vs : List ℤ) (fs : List ℕ) (l : Lane) (wait : Waiting t (nodesOf records n) (inputCells given known) vs₀ fs₀ i w vs fs) → 0 < w .size → w .size < 8
       → Joins t (nodesOf records n) (inputCells given known) vs₀ fs₀ i (w .n) (w .first) l → r .lanes ≡ set (w .lanes) (w .size) l → r .size ≡ w .size + 1 → r .n ≡ w .n → r .first ≡ w .first
       → Waiting t (nodesOf records n) (inputCells given known) vs₀ fs₀ (i + 1) r vs fs
   more-wait i w r vs fs l wait some few joins el es en ef =
@@ -253,7 +253,7 @@ module _ (t : List ℤ) (records : List Record) (n : ℕ) (checked : Checked t r
 
   -- it waits alone
   one-waits : (i : ℕ) (r : Pending) (vs : List ℤ) (fs : List ℕ) (l : Lane) → 0 < l .n → vs ≡ laidTo valueOf t (nodesOf records n) (inputCells given known) i vs₀ → fs ≡ laidTo flagOf t (nodesOf records n) (inputCells given known) i fs₀
-      → Joins t (nodesOf records n) (inputCells given known) vs₀ fs₀ i (l .n) (l .to) l → (r .lanes ≡ replicate 32 l) × (r .size ≡ 1) × (r .n ≡ l .n) × (r .first ≡ l .to)
+      → Joins t (nodesOf records n) (inputCells given known) vs₀ fs₀ i (l .n) (l .to) l → (r .lanes ≡ replicate 8 l) × (r .size ≡ 1) × (r .n ≡ l .n) × (r .first ≡ l .to)
       → Waiting t (nodesOf records n) (inputCells given known) vs₀ fs₀ (i + 1) r vs fs
   one-waits i r vs fs l some ev ef joins e =
       record {
@@ -270,7 +270,7 @@ module _ (t : List ℤ) (records : List Record) (n : ℕ) (checked : Checked t r
 
   -- none waits
   pub none-wait : (i : ℕ) (r : Pending) (vs : List ℤ) (fs : List ℕ) (l : Lane) → vs ≡ laidTo valueOf t (nodesOf records n) (inputCells given known) i vs₀ → fs ≡ laidTo flagOf t (nodesOf records n) (inputCells given known) i fs₀
-      → (r .lanes ≡ replicate 32 l) × (r .size ≡ 0) → Waiting t (nodesOf records n) (inputCells given known) vs₀ fs₀ i r vs fs
+      → (r .lanes ≡ replicate 8 l) × (r .size ≡ 0) → Waiting t (nodesOf records n) (inputCells given known) vs₀ fs₀ i r vs fs
   none-wait i r vs fs l ev ef e =
       record {
         done = i;
@@ -321,7 +321,7 @@ module _ {t : List ℤ} {records : List Record} {n : ℕ} {starts : List ℕ} {i
 
   -- the node joins them
   pub turn-joins : (l : Lane) (r : Pending) → (0 < l .n → LaneOf u l)
-      → (0 < w .size) × (w .size < 32) × (l .n ≡ w .n) × Near (w .first) (l .p) (l .a) × Near (w .first) (l .q) (l .b) × Near (w .first) (l .u) (l .d)
+      → (0 < w .size) × (w .size < 8) × (l .n ≡ w .n) × Near (w .first) (l .p) (l .a) × Near (w .first) (l .q) (l .b) × Near (w .first) (l .u) (l .d)
       → (r .lanes ≡ set (w .lanes) (w .size) l) × (r .size ≡ w .size + 1) × (r .n ≡ w .n) × (r .first ≡ w .first)
       → Waiting t (nodesOf records n) (inputCells given known) vs₀ fs₀ (i + 1) r vs fs
   turn-joins l r is h e =
@@ -335,7 +335,7 @@ module _ {t : List ℤ} {records : List Record} {n : ℕ} {starts : List ℕ} {i
     laid = group-run t records n (k .checked) given known (k .fed) vs₀ fs₀ starts (k .places) i w vs fs (k .waiting) (omega (arith, k .inside)) ran
 
     -- it waits alone
-    pub turn-waits : (l : Lane) (r : Pending) → 0 < l .n → (0 < l .n → LaneOf u l) → (r .lanes ≡ replicate 32 l) × (r .size ≡ 1) × (r .n ≡ l .n) × (r .first ≡ l .to)
+    pub turn-waits : (l : Lane) (r : Pending) → 0 < l .n → (0 < l .n → LaneOf u l) → (r .lanes ≡ replicate 8 l) × (r .size ≡ 1) × (r .n ≡ l .n) × (r .first ≡ l .to)
         → Waiting t (nodesOf records n) (inputCells given known) vs₀ fs₀ (i + 1) r vs₁ fs₁
     turn-waits l r some is e =
         let after = lane-after t records n (k .checked) given known (k .fed) vs₀ fs₀ starts (k .places) i (k .inside) u (k .turn) l (is some) in
@@ -350,7 +350,7 @@ module _ {t : List ℤ} {records : List Record} {n : ℕ} {starts : List ℕ} {i
 
     pub turn-ends : {vs₂ : List ℤ} {fs₂ : List ℕ} (l : Lane) (r : Pending)
         → ((o : Operands) → Reads (u .node) (shown (u .a .shape)) (shown (u .b .shape)) (shown (u .d .shape)) (shown (u .shape)) (u .a .base) (u .b .base) (u .d .base) from given known vs₁ fs₁ o → Evaluates (u .node) (shown (u .shape)) o vs₁ fs₁ (u .start) vs₂ fs₂)
-        → (r .lanes ≡ replicate 32 l) × (r .size ≡ 0) × (r .n ≡ l .n) × (r .first ≡ l .to) → Waiting t (nodesOf records n) (inputCells given known) vs₀ fs₀ (i + 1) r vs₂ fs₂
+        → (r .lanes ≡ replicate 8 l) × (r .size ≡ 0) × (r .n ≡ l .n) × (r .first ≡ l .to) → Waiting t (nodesOf records n) (inputCells given known) vs₀ fs₀ (i + 1) r vs₂ fs₂
     turn-ends {vs₂} {fs₂} l r evaluates e =
         let turn = k .turn in
         let more = one-more t records n (k .checked) i (k .inside) given known (k .fed) vs₀ fs₀ vs₁ fs₁ starts (k .places) (laid .0) (laid .1) _ _ _ _ _ _ (turn .first) (turn .second) (turn .third) (turn .node) (turn .shape) (k .input) (turn .begins) evaluates in

@@ -30,8 +30,8 @@ use Rattle.runner.proofs.Inputs.{limits-length, limits-at, start-more, tests-pa
 use Rattle.runner.proofs.Sound as sound
 use Rattle.inputs.specs.Nodes.{nodesOf, Limited}
 use Rattle.inputs.proofs.Sizes.{nodes-length}
-use Rattle.running.specs.Running.{Checked, Fed}
-use Rattle.running.proofs.EndToEnd.{cellsAt, all-have}
+use Rattle.scheduling.specs.Running.{Checked, Fed}
+use Rattle.scheduling.proofs.EndToEnd.{cellsAt, all-have}
 
 -- ---- small numbers
 

@@ -1,0 +1,4 @@
+pub mod EndToEnd
+pub mod Plans
+pub mod Turns
+pub mod Grouped
