@@ -174,7 +174,7 @@ fn read_sides(values: &[i64], p: usize) -> Sides
 // Eight sides in the places from `to` on.
 fn write_sides(flags: &mut [u8], to: usize, s: Sides)
     requires { ⌜ to + 8 ≤ length (now flags) ⌝ }
-    ensures { λ _. ⌜ ((f : ℕ → ℕ) → AreSides f s → now (flags .exit) ≡ store (now (flags .entry)) to 8 f) × (length (now (flags .exit)) ≡ length (now (flags .entry))) ⌝ }
+    ensures { λ _. ⌜ ((f : ℕ → ℕ) → AreSides f s → now (flags .exit) ≡ store (now (flags .entry)) to 8 f) ⌝ }
 {
     flags[to] = s.s0;
     flags[to + 1] = s.s1;

@@ -12,7 +12,7 @@ same-length : tie.Need-same-length
 same-length c = search needs
 
 returns : tie.Need-returns
-returns c = c .before .before .write-sides .ensures .0 _ (c .before .before .before .before .read-sides .ensures)
+returns c = c .before .before .write-sides .ensures _ (c .before .before .before .before .read-sides .ensures)
 
 pub eight-sides-spec : {M : Type 1} → statement M
 eight-sides-spec =
