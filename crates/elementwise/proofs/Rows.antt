@@ -16,8 +16,8 @@ use Rattle.plan.specs.declared.Row.{Row}
 use Rattle.views.specs.declared.Stride.{Stride}
 use Rattle.views.specs.declared.View.{View}
 use Rattle.views.specs.Views.{step, span, rowsOf, rowPlace, reach}
-use Rattle.views.specs.Numbers.{SmallBefore}
-use Rattle.views.proofs.RowPlaces.{cell-below}
+use Rattle.views.specs.Numbers.{SmallSeen}
+use Rattle.views.proofs.RowPlaces.{cell-below, place-row, block-fits}
 use Rattle.views.proofs.Steps.{step-le}
 use Rattle.validity.specs.Flags.{mixFlag, clearedValue, three}
 use Rattle.validity.proofs.Clearing.{both-cleared}
@@ -30,10 +30,11 @@ module _ {vs ws : List ℤ} {s : ℕ} (v : Kept (pos 0) vs ws s) where
   small-kept {k} e h f t = rw (R-is f, v .at k h, e) t
 
   -- the numbers along row i
-  pub small-row : (g : Row) (a : View) {i p : ℕ} → SmallBefore vs s → reach g a < s → i < rowsOf g → p ≡ rowPlace g a i → SmallAlong ws (g .r3) p (a .s3)
+  pub small-row : (g : Row) (a : View) {i p : ℕ} → SmallSeen vs g a → reach g a < s → i < rowsOf g → p ≡ rowPlace g a i → SmallAlong ws (g .r3) p (a .s3)
   small-row g a {i} {p} t near few e j w =
       let h = cell-below g a near i j few w in
-      rw (e, v .at _ h) (t _ h)
+      let there : i * g .r3 + j < rowsOf g * g .r3 = omega (arith, block-fits i (rowsOf g) (g .r3) few) in
+      rw (e, v .at _ h, ← place-row g a i j w) (t (i * g .r3 + j) there)
 
   -- three numbers, read at places computed another way
   pub plain-read : (op : ℕ) {k l m p q u : ℕ} {x y z : ℤ} → k ≡ p → l ≡ q → m ≡ u → k < s → l < s → m < s
@@ -59,7 +60,7 @@ module _ (op : ℕ) (vs vs₁ vs₂ : List ℤ) (fs gs : List ℕ) (s n : ℕ) (
 -- ---- a part of a row, from cell i on, where the stride does not go down
 
 module _ (s : Stride) (flat : s .down ≡ 0) (n m i : ℕ) (fits : i + m ≤ n) where
-  pub part-place : (p c : ℕ) → p + i * s .up + step m s c ≡ p + step n s (i + c)
+  part-place : (p c : ℕ) → p + i * s .up + step m s c ≡ p + step n s (i + c)
   unfolding step
   part-place p c = rw (flat, mul-zero, mul-zero, add-mul) (omega arith)
 

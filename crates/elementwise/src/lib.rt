@@ -8,7 +8,7 @@ ghost use lib.ListN.{length, getD};
 ghost use Rattle.laws.specs.Store.{store};
 ghost use Rattle.laws.proofs.Machine.{Small};
 ghost use Rattle.views.specs.Views.{strideOf, step, span, rowsOf, reach};
-ghost use Rattle.views.specs.Numbers.{SmallBefore};
+ghost use Rattle.views.specs.Numbers.{SmallSeen};
 ghost use Rattle.cells.specs.Cells.{binary};
 ghost use Rattle.validity.specs.Flags.{mixFlag, three, mixedFlags};
 ghost use Rattle.elementwise.specs.Mixing.{plainValue, mixValue, plainAt, mixedValues, SmallAlong};
@@ -182,7 +182,7 @@ fn plain_row(
 }
 
 // The cells of a row.
-pub fn mix_row(
+fn mix_row(
     values: &mut [i64],
     flags: &mut [u8],
     op: usize,
@@ -208,22 +208,22 @@ pub fn mix_row(
 }
 
 // None of three strides goes down.
-pub fn rising(a: Stride, b: Stride, d: Stride) -> bool
+fn rising(a: Stride, b: Stride, d: Stride) -> bool
     ensures { λ r. ⌜ (r ≡ true → (a .down ≡ 0) × (b .down ≡ 0) × (d .down ≡ 0)) ⌝ }
 {
     (a.down == 0) & ((b.down == 0) & (d.down == 0))
 }
 
-// The next part, of at most `most` cells, of what is left.
-pub fn part(left: usize, most: usize) -> usize
-    requires { ⌜ (0 < left) × (0 < most) ⌝ }
+// The next part of what is left of a row.
+fn part(left: usize) -> usize
+    requires { ⌜ 0 < left ⌝ }
     ensures { λ r. ⌜ (0 < r) × (r ≤ left) ⌝ }
 {
-    if left < most { left } else { most }
+    if left < 1024 { left } else { 1024 }
 }
 
 // The cells of a row in parts of 1024: what one loop leaves in the nearest cache the next finds there.
-pub fn mix_parts(
+fn mix_parts(
     values: &mut [i64],
     flags: &mut [u8],
     op: usize,
@@ -241,7 +241,7 @@ pub fn mix_parts(
 {
     let mut i = 0;
     while i < n {
-        let m = part(n - i, 1024);
+        let m = part(n - i);
         let k = p + i * a.up;
         let l = q + i * b.up;
         let o = u + i * d.up;
@@ -286,7 +286,7 @@ pub fn mix(
     rows: usize,
     start: usize,
 )
-    requires { ⌜ (9 ≤ op) × (op < 19) × (rows ≡ rowsOf g) × (reach g a < start) × (reach g b < start) × (reach g d < start) × (start + rows * g .r3 ≤ length (now values)) × (start + rows * g .r3 ≤ length (now flags)) × SmallBefore (now values) start ⌝ }
+    requires { ⌜ (9 ≤ op) × (op < 19) × (rows ≡ rowsOf g) × (reach g a < start) × (reach g b < start) × (reach g d < start) × (start + rows * g .r3 ≤ length (now values)) × (start + rows * g .r3 ≤ length (now flags)) × SmallSeen (now values) g a × SmallSeen (now values) g b ⌝ }
     ensures { λ _. ⌜ (now (values .exit) ≡ mixedValues op (now (values .entry)) (now (flags .entry)) g a b d start) × (now (flags .exit) ≡ mixedFlags op (now (values .entry)) (now (flags .entry)) g a b d start) ⌝ }
 {
     let n = g.r3;

@@ -3,6 +3,5 @@ pub mod Laying
 pub mod Leaves
 pub mod Groups
 pub mod Mixed
-pub mod OneRow
 pub mod Gathered
 pub mod Turns

@@ -24,10 +24,12 @@ use Rattle.cells.specs.Nodes.{Operands, evalCell, broadcastCell}
 use Rattle.runner.specs.Run.{valueOf, flagOf}
 use Rattle.views.specs.declared.View.{View}
 use Rattle.views.specs.Views.{cellsOf, place, reach}
+use Rattle.views.specs.Numbers.{SmallIn, SmallSeen}
+use Rattle.views.proofs.Steps.{place-le}
 use Rattle.validity.specs.Flags.{mixFlag, three, mixedFlags}
 use Rattle.elementwise.specs.Mixing.{plainValue, mixValue, mixedValues}
 use Rattle.walking.specs.declared.Walk.{Walk}
-use Rattle.walking.specs.Alike.{Still, Near}
+use Rattle.walking.specs.Alike.{Alike, Still, Near}
 use Rattle.evaluation.specs.Standing.{Source, Evaluates}
 use Rattle.evaluation.specs.Spread.{Spreading, Spread}
 use Rattle.evaluation.proofs.Walked.{walk-below}
@@ -35,7 +37,7 @@ use Rattle.evaluation.proofs.Groups.{range-binaries}
 
 -- ---- the same places
 
-pub three-same : {C : Type 0} (F : ℤ → ℕ → ℤ → ℕ → ℤ → ℕ → C) (vs : List ℤ) (fs : List ℕ) {p p′ q q′ u u′ : ℕ} → p ≡ p′ → q ≡ q′ → u ≡ u′ → three F vs fs p q u ≡ three F vs fs p′ q′ u′
+three-same : {C : Type 0} (F : ℤ → ℕ → ℤ → ℕ → ℤ → ℕ → C) (vs : List ℤ) (fs : List ℕ) {p p′ q q′ u u′ : ℕ} → p ≡ p′ → q ≡ q′ → u ≡ u′ → three F vs fs p q u ≡ three F vs fs p′ q′ u′
 three-same F vs fs a b c = rw (a, b, c) refl
 
 -- three views over as few axes as they let there be
@@ -159,3 +161,11 @@ spread-near {x} {w = w} {limit} spread a b c = record { a = omega (arith, spread
         bool-cases (eqb (x .op) WHERE)
         (λ is. let q : x .op ≡ WHERE = eqb-true (x .op) WHERE is in omega (arith, spread .third q .inside, c q))
         (λ is. rw (spread .twice (eqb-false (x .op) WHERE is)) second)
+
+-- numbers that views find: those of a walk over fewer axes, and those of a source that is broadcast
+pub seen-alike : (vs : List ℤ) {g h : Row} {v u : View} → cellsOf h ≡ cellsOf g → Alike g v h u → SmallSeen vs g v → SmallSeen vs h u
+seen-alike vs e a small j l = let k : j < cellsOf _ = rw e at l in rw (a .near j k) (small j k)
+
+pub spread-small : (vs : List ℤ) {R : Row} {v : View} {base : ℕ} (s r : List ℕ) → Spreading R v base s r → SmallIn vs base (base + count s) → SmallSeen vs R v
+spread-small vs {R} {v} s r w small j l =
+    small (place R v j) (omega (arith, w .at j (rw (w .cells) at l))) (omega (arith, place-le R v j l, w .inside))

@@ -11,7 +11,7 @@ use Rattle.plan.specs.Operations.{PARAM, operationCount, uses}
 use Rattle.shapes.specs.Rules.{elementLimit, extent, shapesAgree, resultExtents}
 use Rattle.rules.specs.Rules.{rowsRight}
 use Rattle.cells.specs.Nodes.{Operands}
-use Rattle.views.specs.Numbers.{SmallBefore}
+use Rattle.views.specs.Numbers.{SmallIn}
 use Rattle.evaluation.specs.Standing.{Source, Given, Room}
 
 -- extents from 1 on, at most four, of at most 1048576 elements
@@ -36,7 +36,8 @@ pub record Right (x : Node) (s t u r : List ℕ) : Type 0 where
 pub record Ready (x : Node) (s t u r : List ℕ) (pa pb pc from start : ℕ) (given : List ℤ) (known : List ℕ) (vs : List ℤ) (fs : List ℕ) : Type 0 where
   pub right : Right x s t u r
   pub room : Room r start vs fs
-  pub small : SmallBefore vs start
+  pub small-first : uses (x .op) 1 ≡ true → SmallIn vs pa (pa + count s)
+  pub small-second : uses (x .op) 2 ≡ true → SmallIn vs pb (pb + count t)
   pub first : uses (x .op) 1 ≡ true → pa + count s ≤ start
   pub second : uses (x .op) 2 ≡ true → pb + count t ≤ start
   pub third : uses (x .op) 3 ≡ true → pc + count u ≤ start

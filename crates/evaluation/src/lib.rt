@@ -2,7 +2,7 @@
 ghost use mathlib.Core.Path.{_≡_};
 ghost use mathlib.Core.Bool.{true, cond};
 ghost use mathlib.Core.List.{List, []};
-ghost use Prim.Native.Nat.{ℕ, _+_, _^_, _≤_, _<_};
+ghost use Prim.Native.Nat.{ℕ, _+_, _≤_, _<_};
 ghost use Rattle.laws.specs.Lists.{among};
 ghost use Rattle.laws.specs.Numbering.{count};
 ghost use Rattle.shapes.specs.Rules.{resultExtents, gatheredExtents};
@@ -11,25 +11,24 @@ ghost use lib.IntN.{pos};
 ghost use lib.ListN.{length};
 ghost use Rattle.views.specs.Views.{cellsOf, reach};
 ghost use Rattle.moving.specs.Moved.{moved};
-ghost use Rattle.plan.specs.Operations.{WHERE, uses};
-ghost use Rattle.plan.specs.Words.{element, listOf};
+ghost use Rattle.plan.specs.Operations.{WHERE};
+ghost use Rattle.plan.specs.Words.{listOf};
 ghost use Rattle.shapes.proofs.Broadcast.{Spreads};
 ghost use Rattle.shapes.proofs.Extents.{Positive};
 ghost use Rattle.views.specs.Walks.{InFront};
 ghost use Rattle.elementwise.specs.Mixing.{mixedValues};
 ghost use Rattle.validity.specs.Flags.{mixedFlags};
-ghost use Rattle.views.specs.Numbers.{SmallBefore};
-ghost use Rattle.walking.specs.Alike.{Near, Still, Reaches};
+ghost use Rattle.views.specs.Numbers.{SmallIn, SmallSeen};
+ghost use Rattle.walking.specs.Alike.{Near};
 ghost use Rattle.evaluation.specs.Ready.{Proper, Right, Ready, Reads};
 ghost use Rattle.cells.specs.Nodes.{Operands};
 ghost use Rattle.walking.specs.Movements.{Viewed};
 ghost use Rattle.evaluation.specs.Standing.{Source, Evaluates, Room, Given, copied, moves, Padded, Reduced};
-ghost use Rattle.evaluation.specs.Spread.{Spreading, Spread, OneRow, rowLane, IsLane};
+ghost use Rattle.evaluation.specs.Spread.{Spreading, Spread};
 ghost use lib.Dec.{eqb};
 use plan::Node;
 use plan::Row;
 use shapes::Shape;
-use tiling::Lane;
 use views::Stride;
 use views::View;
 use walking::Walk;
@@ -165,7 +164,7 @@ fn operand_view(a: Operand) -> View
 
 // The cells of three views, mixed.
 fn mix_cells(op: usize, w: Walk, values: &mut [i64], flags: &mut [u8], start: usize)
-    requires { ⌜ (9 ≤ op) × (op < 19) × Near w start × (0 < cellsOf (w .grid)) × (start + cellsOf (w .grid) ≤ length (now values)) × (start + cellsOf (w .grid) ≤ length (now flags)) × SmallBefore (now values) start ⌝ }
+    requires { ⌜ (9 ≤ op) × (op < 19) × Near w start × (0 < cellsOf (w .grid)) × (start + cellsOf (w .grid) ≤ length (now values)) × (start + cellsOf (w .grid) ≤ length (now flags)) × SmallSeen (now values) (w .grid) (w .a) × SmallSeen (now values) (w .grid) (w .b) ⌝ }
     ensures { λ _. ⌜ (now (values .exit) ≡ mixedValues op (now (values .entry)) (now (flags .entry)) (w .grid) (w .a) (w .b) (w .d) start) × (now (flags .exit) ≡ mixedFlags op (now (values .entry)) (now (flags .entry)) (w .grid) (w .a) (w .b) (w .d) start) ⌝ }
 {
     let t = walking::settle(w);
@@ -209,69 +208,11 @@ fn eval_mixed(
     flags: &mut [u8],
     start: usize,
 )
-    requires { ⌜ (9 ≤ x .op) × (x .op < 19) × Right x (shown (a .shape)) (shown (b .shape)) (shown (d .shape)) (shown r) × Room (shown r) start (now values) (now flags) × SmallBefore (now values) start × (a .base + count (shown (a .shape)) ≤ start) × (b .base + count (shown (b .shape)) ≤ start) × (x .op ≡ WHERE → d .base + count (shown (d .shape)) ≤ start) ⌝ }
+    requires { ⌜ (9 ≤ x .op) × (x .op < 19) × Right x (shown (a .shape)) (shown (b .shape)) (shown (d .shape)) (shown r) × Room (shown r) start (now values) (now flags) × SmallIn (now values) (a .base) (a .base + count (shown (a .shape))) × SmallIn (now values) (b .base) (b .base + count (shown (b .shape))) × (a .base + count (shown (a .shape)) ≤ start) × (b .base + count (shown (b .shape)) ≤ start) × (x .op ≡ WHERE → d .base + count (shown (d .shape)) ≤ start) ⌝ }
     ensures { λ _. ⌜ ((o : Operands) → Source (now (values .entry)) (now (flags .entry)) (a .base) (shown (a .shape)) (o .a) → Source (now (values .entry)) (now (flags .entry)) (b .base) (shown (b .shape)) (o .b) → (x .op ≡ WHERE → Source (now (values .entry)) (now (flags .entry)) (d .base) (shown (d .shape)) (o .c)) → Evaluates x (shown r) o (now (values .entry)) (now (flags .entry)) start (now (values .exit)) (now (flags .exit))) ⌝ }
 {
     let w = mixed_walk(x, r, a, b, d);
     mix_cells(x.op, w, values, flags, start);
-}
-
-// A walk over as few axes as its views let there be; a binary operation still has its second view twice.
-fn settled(op: usize, w: Walk) -> Walk
-    requires { ⌜ Reaches w (2 ^ 63) × ((op ≡ WHERE → ⊥) → w .d ≡ w .b) ⌝ }
-    ensures { λ t. ⌜ Still w t × ((op ≡ WHERE → ⊥) → t .d ≡ t .b) ⌝ }
-{
-    let t = walking::settle(w);
-    if op == 18 {
-        return t;
-    }
-    let grid = t.grid;
-    let a = t.a;
-    let b = t.b;
-    Walk {
-        grid: grid,
-        a: a,
-        b: b,
-        d: b,
-    }
-}
-
-// A walk as a lane; one without cells where it has more than one row, or goes downwards.
-fn row_lane(op: usize, t: Walk, start: usize) -> Lane
-    requires { ⌜ (0 < cellsOf (t .grid)) × (cellsOf (t .grid) < 2 ^ 63) ⌝ }
-    ensures { λ l. ⌜ (0 < l .n → OneRow t × (l ≡ rowLane op t start)) ⌝ }
-{
-    if walking::rows(t.grid) != 1 {
-        return tiling::no_lane();
-    }
-    if !elementwise::rising(t.a.s3, t.b.s3, t.d.s3) {
-        return tiling::no_lane();
-    }
-    Lane {
-        op: op,
-        n: t.grid.r3,
-        p: t.a.base,
-        a: t.a.s3.up,
-        q: t.b.base,
-        b: t.b.s3.up,
-        u: t.d.base,
-        d: t.d.s3.up,
-        to: start,
-    }
-}
-
-// A node as a lane; one without cells where it is none: another operation, more than one row, or a source that is walked downwards.
-pub fn lane_of(x: Node, r: Shape, a: Operand, b: Operand, d: Operand, start: usize) -> Lane
-    requires { ⌜ Right x (shown (a .shape)) (shown (b .shape)) (shown (d .shape)) (shown r) × (start + count (shown r) < 2 ^ 63) × (uses (x .op) 1 ≡ true → a .base + count (shown (a .shape)) ≤ start) × (uses (x .op) 2 ≡ true → b .base + count (shown (b .shape)) ≤ start) × (uses (x .op) 3 ≡ true → d .base + count (shown (d .shape)) ≤ start) ⌝ }
-    ensures { λ l. ⌜ (0 < l .n → IsLane x (shown (a .shape)) (shown (b .shape)) (shown (d .shape)) (shown r) (a .base) (b .base) (d .base) start l) ⌝ }
-{
-    let op = x.op;
-    if (9 <= op) & (op < 19) {
-        let w = mixed_walk(x, r, a, b, d);
-        let t = settled(op, w);
-        return row_lane(op, t, start);
-    }
-    tiling::no_lane()
 }
 
 // Operations 2 to 8 and LOAD: one source.
@@ -320,7 +261,7 @@ pub fn eval_reduced(
     flags: &mut [u8],
     start: usize,
 )
-    requires { ⌜ Reduced x (shown s) (shown r) × Room (shown r) start (now values) (now flags) × (base + count (shown s) ≤ start) × SmallBefore (now values) start ⌝ }
+    requires { ⌜ Reduced x (shown s) (shown r) × Room (shown r) start (now values) (now flags) × (base + count (shown s) ≤ start) × SmallIn (now values) base (base + count (shown s)) ⌝ }
     ensures { λ _. ⌜ ((o : Operands) → Source (now (values .entry)) (now (flags .entry)) base (shown s) (o .a) → Evaluates x (shown r) o (now (values .entry)) (now (flags .entry)) start (now (values .exit)) (now (flags .exit))) ⌝ }
 {
     let inner = views::grid(s);

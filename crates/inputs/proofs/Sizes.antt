@@ -59,7 +59,7 @@ module _ (t : List ℤ) (ds : List Derived) where
   start-none = refl
 
   -- one node more
-  start-next : (i n : ℕ) → n ≡ ifParam t i (countOf (getD ds i noSource)) → inputStart t ds i + n ≡ inputStart t ds (i + 1)
+  pub start-next : (i n : ℕ) → n ≡ ifParam t i (countOf (getD ds i noSource)) → inputStart t ds i + n ≡ inputStart t ds (i + 1)
   unfolding overParams
   start-next i n e = rw (add-one, e)
 

@@ -6,17 +6,18 @@ use native.Mathlib.Omega.{arith}
 use lib.IntN.{ℤ, pos}
 use lib.ListN.{length, getD}
 use Rattle.laws.specs.Store.{store}
+use Rattle.laws.proofs.Machine.{Small}
 use Rattle.plan.specs.declared.Row.{Row}
 use Rattle.views.specs.declared.Stride.{Stride}
 use Rattle.views.specs.declared.View.{View}
 use Rattle.views.specs.Views.{step, span, rowsOf, cellsOf, rowPlace, place, rowReach, reach}
-use Rattle.views.proofs.RowPlaces.{place-row, row-below, cell-below}
+use Rattle.views.proofs.RowPlaces.{place-row, row-below, cell-below, base-place}
 use Rattle.views.proofs.Steps.{step-le, place-le}
 use Rattle.validity.specs.Flags.{clearedValue}
 use Rattle.validity.proofs.Clearing.{both-cleared}
 use Rattle.reducing.specs.Folding.{combineOf, first, reducedFlag, reducedFlags, reducedValues}
 use Rattle.reducing.specs.Gathering.{taken, runs, Room}
-use Rattle.views.specs.Numbers.{SmallBefore}
+use Rattle.views.specs.Numbers.{SmallIn}
 use Rattle.reducing.proofs.Folds.{rows-turn, taken-after, blocks-turn}
 use Rattle.reducing.proofs.Rooms.{small-kept, begin-room}
 
@@ -28,9 +29,15 @@ module _ (k : Row) (kept : View) where
   cell-near : (i c far start : ℕ) → reach k kept + far < start → i < rowsOf k → c < k .r3 → rowPlace k kept i + step (k .r3) (kept .s3) c + far < start
   cell-near i c far start near h w = omega (arith, cell-below k kept {n = reach k kept + 1} (omega arith) i c h w)
 
-  pub sources-near : (g : Row) (gathered : View) (start rows blocks : ℕ) → reach k kept + reach g gathered < start → rows ≡ rowsOf k → blocks ≡ rowsOf g
+  sources-near : (g : Row) (gathered : View) (start rows blocks : ℕ) → reach k kept + reach g gathered < start → rows ≡ rowsOf k → blocks ≡ rowsOf g
       → (e i : ℕ) → e < rows * k .r3 → i < blocks * g .r3 → place k kept e + place g gathered i < start
   sources-near g gathered start rows blocks near r b e i h q = omega (arith, place-le k kept e (rw r at h), place-le g gathered i (rw b at q))
+
+  -- and they are small
+  pub sources-small : (g : Row) (gathered : View) (vs : List ℤ) (rows blocks : ℕ) → SmallIn vs (kept .base) (reach k kept + reach g gathered + 1) → rows ≡ rowsOf k → blocks ≡ rowsOf g
+      → (e i : ℕ) → e < rows * k .r3 → i < blocks * g .r3 → Small (getD vs (place k kept e + place g gathered i) (pos 0))
+  sources-small g gathered vs rows blocks small r b e i h q =
+      small (place k kept e + place g gathered i) (omega (arith, base-place k kept e)) (omega (arith, place-le k kept e (rw r at h), place-le g gathered i (rw b at q)))
 
   pub offset-near : (g : Row) (gathered : View) (start : ℕ) {p : ℕ} → reach k kept + reach g gathered < start → p ≤ rowReach g gathered
       → reach k kept + (p + span (g .r3) (gathered .s3)) < start
@@ -70,12 +77,12 @@ module _ (k : Row) (kept : View) (g : Row) (gathered : View) (start rows blocks 
   flags-reduced fs m m′ fits e e′ = taken-after min 0 fs m m′ start (cellsOf k) (cellsOf g) _ _ (rw r at fits) e (rw (r, b) at e′) far-from
 
   -- the numbers at first
-  pub begun : (how : ℕ) (vs m : List ℤ) → start + rows * k .r3 ≤ length vs → cellsOf g ≤ 1048576 → SmallBefore vs start
-      → m ≡ store vs start (cellsOf k) (λ (e : ℕ). first how vs (place k kept e)) → SmallBefore m start × Room m start (rows * k .r3) (blocks * g .r3)
+  pub begun : (how : ℕ) (vs m : List ℤ) → start + rows * k .r3 ≤ length vs → cellsOf g ≤ 1048576 → SmallIn vs (kept .base) (reach k kept + reach g gathered + 1)
+      → m ≡ store vs start (cellsOf k) (λ (e : ℕ). first how vs (place k kept e)) → SmallIn m (kept .base) (reach k kept + reach g gathered + 1) × Room m start (rows * k .r3) (blocks * g .r3)
   begun how vs m fits few small e = (
-    small-kept vs m start (cellsOf k) _ e start start small (omega arith) (omega arith),
+    small-kept vs m start (cellsOf k) _ e small (omega arith) (omega arith) (omega arith),
     rw (r, b)
-        (begin-room how vs m start (cellsOf k) (cellsOf g) (place k kept) (rw r at fits) e small (λ c h. omega (arith, place-le k kept c h)) few),
+        (begin-room how vs m start (cellsOf k) (cellsOf g) (place k kept) (rw r at fits) e (λ c h. small (place k kept c) (base-place k kept c) (omega (arith, place-le k kept c h))) few),
   )
 
   -- the numbers: begun, folded, masked

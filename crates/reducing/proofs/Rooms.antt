@@ -26,7 +26,7 @@ use Rattle.views.proofs.Steps.{step-le}
 use Rattle.views.proofs.RowPlaces.{block-fits}
 use Rattle.reducing.specs.Folding.{foldFrom, combineOf, first}
 use Rattle.reducing.specs.Gathering.{taken, Room}
-use Rattle.views.specs.Numbers.{SmallBefore}
+use Rattle.views.specs.Numbers.{SmallIn}
 use Rattle.reducing.proofs.Folds.{fold-step}
 
 -- ---- absolute values
@@ -92,10 +92,10 @@ fold-room : (how : ℕ) (z : ℤ) (v : ℕ → ℤ) (n i : ℕ) → ((j : ℕ) �
 fold-room how z v n i small room h = omega (arith, fold-abs how z v i (λ j q. small j (omega arith)), small-abs (small i h))
 
 -- the same, of a run in a buffer, as the code reads it
-module _ (how : ℕ) (z : ℤ) (vs : List ℤ) (p n : ℕ) (s : Stride) (i : ℕ) (small : SmallBefore vs (p + span n s + 1)) (h : i < n) {r : ℤ} {j : ℕ}
+module _ (how : ℕ) (z : ℤ) (vs : List ℤ) (p n : ℕ) (s : Stride) (i : ℕ) (small : SmallIn vs p (p + span n s + 1)) (h : i < n) {r : ℤ} {j : ℕ}
     (so-far : r ≡ foldFrom (combineOf how) z (λ (k : ℕ). getD vs (p + step n s k) (pos 0)) i) (at : j ≡ step n s i) where
   along : (k : ℕ) → k < n → Small (getD vs (p + step n s k) (pos 0))
-  along k q = small (p + step n s k) (omega (arith, step-le n s k q))
+  along k q = small (p + step n s k) (omega arith) (omega (arith, step-le n s k q))
 
   next : R (getD vs (p + j) (pos 0)) ≡ getD vs (p + step n s i) (pos 0)
   next = rw at (R-is (small-fits (along i h)))
@@ -110,12 +110,12 @@ module _ (how : ℕ) (z : ℤ) (vs : List ℤ) (p n : ℕ) (s : Stride) (i : ℕ
 
 module _ (l m : List ℤ) (s n : ℕ) (g : ℕ → ℤ) (e : m ≡ store l s n g) where
   -- the numbers before what is written
-  pub small-kept : (q q′ : ℕ) → SmallBefore l q → q ≤ s → q′ ≤ q → SmallBefore m q′
-  small-kept q q′ h near less p w = rw (store-read l m s n g p (pos 0) e (omega arith)) (h p (omega arith))
+  pub small-kept : {a a′ q q′ : ℕ} → SmallIn l a q → q ≤ s → a ≤ a′ → q′ ≤ q → SmallIn m a′ q′
+  small-kept h near more less p v w = rw (store-read l m s n g p (pos 0) e (omega arith)) (h p (omega arith) (omega arith))
 
   -- one of them as it is read
-  pub small-read : (q p : ℕ) → SmallBefore l q → q ≤ s → p < q → R (getD m p (pos 0)) ≡ getD m p (pos 0)
-  small-read q p h near w = R-is (small-fits (small-kept q q h near (omega arith) p w))
+  pub small-read : {a q : ℕ} (p : ℕ) → SmallIn l a q → q ≤ s → a ≤ p → p < q → R (getD m p (pos 0)) ≡ getD m p (pos 0)
+  small-read p h near v w = R-is (small-fits (small-kept h near (omega arith) (omega arith) p v w))
 
   -- the next cell, as it is read
   module _ (a k : ℕ) (room : Room l s a k) (h : n < a) where
@@ -129,9 +129,9 @@ module _ (l m : List ℤ) (s n : ℕ) (g : ℕ → ℤ) (e : m ≡ store l s n g
     room-at = rw room-read room-here
 
   -- the next cell, and the number that it takes in
-  pub cell-room : (a q p : ℕ) → SmallBefore l q → q ≤ s → p < q → Room l s a 1 → n < a → natAbs (R (getD m (s + n) (pos 0))) + natAbs (R (getD m p (pos 0))) < 2 ^ 63
-  cell-room a q p small near w room h =
-      rw (small-read q p small near w) (omega (arith, room-at a 1 room h, small-abs (small-kept q q small near (omega arith) p w)))
+  pub cell-room : {low q : ℕ} (a p : ℕ) → SmallIn l low q → q ≤ s → low ≤ p → p < q → Room l s a 1 → n < a → natAbs (R (getD m (s + n) (pos 0))) + natAbs (R (getD m p (pos 0))) < 2 ^ 63
+  cell-room a p small near v w room h =
+      rw (small-read p small near v w) (omega (arith, room-at a 1 room h, small-abs (small-kept small near (omega arith) (omega arith) p v w)))
 
   -- the cells ahead
   pub room-ahead : (a k : ℕ) {to b : ℕ} → Room l s a k → to ≡ s + n → n + b ≤ a → Room m to b k
@@ -141,16 +141,16 @@ module _ (l m : List ℤ) (s n : ℕ) (g : ℕ → ℤ) (e : m ≡ store l s n g
 
 -- each cell has taken in j of k blocks of w
 pub room-block : (how : ℕ) (l m : List ℤ) (start n j k w : ℕ) (from : ℕ → ℕ → ℕ) → start + n ≤ length l → m ≡ taken (combineOf how) (pos 0) l start n from (j * w)
-    → SmallBefore l start → ((e i : ℕ) → e < n → i < k * w → from e i < start) → Room l start n (k * w) → j < k → Room m start n w
-room-block how l m start n j k w from fits e small near room h c q =
+    → ((e i : ℕ) → e < n → i < k * w → Small (getD l (from e i) (pos 0))) → Room l start n (k * w) → j < k → Room m start n w
+room-block how l m start n j k w from fits e small room h c q =
     let few = block-fits j k w h in
     rw (store-hit l m start n _ c (pos 0) e q fits)
-    (omega (arith, room c q, few, fold-abs how (getD l (start + c) (pos 0)) (λ (i : ℕ). getD l (from c i) (pos 0)) (j * w) (λ i p. small (from c i) (near c i q (omega arith)))))
+    (omega (arith, room c q, few, fold-abs how (getD l (start + c) (pos 0)) (λ (i : ℕ). getD l (from c i) (pos 0)) (j * w) (λ i p. small c i q (omega arith))))
 
 -- what a sum and a maximum begin with
 pub begin-room : (how : ℕ) (l m : List ℤ) (start n k : ℕ) (at : ℕ → ℕ) → start + n ≤ length l → m ≡ store l start n (λ (e : ℕ). first how l (at e))
-    → SmallBefore l start → ((e : ℕ) → e < n → at e < start) → k ≤ 1048576 → Room m start n k
-begin-room how l m start n k at fits e small near few c h =
+    → ((e : ℕ) → e < n → Small (getD l (at e) (pos 0))) → k ≤ 1048576 → Room m start n k
+begin-room how l m start n k at fits e small few c h =
     rw (store-hit l m start n _ c (pos 0) e h fits)
     (cond-both (λ (z : ℤ). natAbs z + k * 2147483648 < 2 ^ 63) (eqb how 0) _ _
-    (λ _. omega arith) (λ _. omega (arith, small-abs (small (at c) (near c h)))))
+    (λ _. omega arith) (λ _. omega (arith, small-abs (small c h))))

@@ -5,7 +5,7 @@ ghost use Prim.Native.Nat.{ℕ, _+_, _*_, _^_, _≤_, _<_, min};
 ghost use lib.IntN.{pos, natAbs};
 ghost use lib.ListN.{length, getD};
 ghost use Rattle.laws.specs.Store.{store};
-ghost use Rattle.views.specs.Numbers.{SmallBefore};
+ghost use Rattle.views.specs.Numbers.{SmallIn};
 ghost use Rattle.views.specs.Views.{step, span, rowsOf, cellsOf, place, reach};
 ghost use Rattle.reducing.specs.Folding.{foldFrom, combineOf, first, reducedFlags, reducedValues};
 ghost use Rattle.reducing.specs.Gathering.{taken, runs, Room};
@@ -26,7 +26,7 @@ fn combine(how: usize, x: i64, y: i64) -> i64
 
 // A run of n numbers of one axis folded into acc.
 fn fold_run_values(values: &[i64], how: usize, acc: i64, n: usize, p: usize, s: Stride) -> i64
-    requires { ⌜ (p + span n s < length (now values)) × (natAbs acc + n * 2147483648 < 2 ^ 63) × SmallBefore (now values) (p + span n s + 1) ⌝ }
+    requires { ⌜ (p + span n s < length (now values)) × (natAbs acc + n * 2147483648 < 2 ^ 63) × SmallIn (now values) p (p + span n s + 1) ⌝ }
     ensures { λ r. ⌜ r ≡ foldFrom (combineOf how) acc (λ (i : ℕ). getD (now (values .entry)) (p + step n s i) (pos 0)) n ⌝ }
 {
     let mut r = acc;
@@ -42,7 +42,7 @@ fn fold_run_values(values: &[i64], how: usize, acc: i64, n: usize, p: usize, s: 
 
 // The same, where sums and maxima, and of them those of one place after another, are loops of their own.
 fn run_values(values: &[i64], how: usize, acc: i64, n: usize, p: usize, s: Stride) -> i64
-    requires { ⌜ (p + span n s < length (now values)) × (natAbs acc + n * 2147483648 < 2 ^ 63) × SmallBefore (now values) (p + span n s + 1) ⌝ }
+    requires { ⌜ (p + span n s < length (now values)) × (natAbs acc + n * 2147483648 < 2 ^ 63) × SmallIn (now values) p (p + span n s + 1) ⌝ }
     ensures { λ r. ⌜ r ≡ foldFrom (combineOf how) acc (λ (i : ℕ). getD (now (values .entry)) (p + step n s i) (pos 0)) n ⌝ }
 {
     let one = Stride { up: 1, down: 0 };
@@ -70,7 +70,7 @@ fn fold_runs_values(
     b: Stride,
     to: usize,
 )
-    requires { ⌜ (p + (span n a + span m b) < to) × (to + n ≤ length (now values)) × SmallBefore (now values) (p + (span n a + span m b) + 1) × Room (now values) to n m ⌝ }
+    requires { ⌜ (p + (span n a + span m b) < to) × (to + n ≤ length (now values)) × SmallIn (now values) p (p + (span n a + span m b) + 1) × Room (now values) to n m ⌝ }
     ensures { λ _. ⌜ now (values .exit) ≡ taken (combineOf how) (pos 0) (now (values .entry)) to n (runs p n a m b) m ⌝ }
 {
     let mut c = 0;
@@ -84,7 +84,7 @@ fn fold_runs_values(
 
 // Each number of a row of n takes in one.
 fn fold_cells_values(values: &mut [i64], how: usize, n: usize, p: usize, a: Stride, to: usize)
-    requires { ⌜ (p + span n a < to) × (to + n ≤ length (now values)) × SmallBefore (now values) (p + span n a + 1) × Room (now values) to n 1 ⌝ }
+    requires { ⌜ (p + span n a < to) × (to + n ≤ length (now values)) × SmallIn (now values) p (p + span n a + 1) × Room (now values) to n 1 ⌝ }
     ensures { λ _. ⌜ now (values .exit) ≡ taken (combineOf how) (pos 0) (now (values .entry)) to n (λ (c i : ℕ). p + step n a c) 1 ⌝ }
 {
     let mut c = 0;
@@ -100,7 +100,7 @@ fn fold_cells_values(values: &mut [i64], how: usize, n: usize, p: usize, a: Stri
 
 // The same, where sums and maxima, and of them those of one place after another, are loops of their own.
 fn cells_values(values: &mut [i64], how: usize, n: usize, p: usize, a: Stride, to: usize)
-    requires { ⌜ (p + span n a < to) × (to + n ≤ length (now values)) × SmallBefore (now values) (p + span n a + 1) × Room (now values) to n 1 ⌝ }
+    requires { ⌜ (p + span n a < to) × (to + n ≤ length (now values)) × SmallIn (now values) p (p + span n a + 1) × Room (now values) to n 1 ⌝ }
     ensures { λ _. ⌜ now (values .exit) ≡ taken (combineOf how) (pos 0) (now (values .entry)) to n (λ (c i : ℕ). p + step n a c) 1 ⌝ }
 {
     let one = Stride { up: 1, down: 0 };
@@ -131,7 +131,7 @@ fn fold_row_values(
     b: Stride,
     to: usize,
 )
-    requires { ⌜ (p + (span n a + span m b) < to) × (to + n ≤ length (now values)) × SmallBefore (now values) (p + (span n a + span m b) + 1) × Room (now values) to n m ⌝ }
+    requires { ⌜ (p + (span n a + span m b) < to) × (to + n ≤ length (now values)) × SmallIn (now values) p (p + (span n a + span m b) + 1) × Room (now values) to n m ⌝ }
     ensures { λ _. ⌜ now (values .exit) ≡ taken (combineOf how) (pos 0) (now (values .entry)) to n (runs p n a m b) m ⌝ }
 {
     if m == 1 {
@@ -153,7 +153,7 @@ fn fold_rows_values(
     rows: usize,
     start: usize,
 )
-    requires { ⌜ (rows ≡ rowsOf k) × (reach k kept + (offset + span m b) < start) × (start + rows * k .r3 ≤ length (now values)) × SmallBefore (now values) start × Room (now values) start (rows * k .r3) m ⌝ }
+    requires { ⌜ (rows ≡ rowsOf k) × (reach k kept + (offset + span m b) < start) × (start + rows * k .r3 ≤ length (now values)) × SmallIn (now values) (kept .base) (reach k kept + (offset + span m b) + 1) × Room (now values) start (rows * k .r3) m ⌝ }
     ensures { λ _. ⌜ now (values .exit) ≡ taken (combineOf how) (pos 0) (now (values .entry)) start (rows * k .r3) (λ (e i : ℕ). place k kept e + (offset + step m b i)) m ⌝ }
 {
     let n = k.r3;
@@ -179,7 +179,7 @@ fn fold_blocks_values(
     blocks: usize,
     start: usize,
 )
-    requires { ⌜ (rows ≡ rowsOf k) × (blocks ≡ rowsOf g) × (reach k kept + reach g gathered < start) × (start + rows * k .r3 ≤ length (now values)) × SmallBefore (now values) start × Room (now values) start (rows * k .r3) (blocks * g .r3) ⌝ }
+    requires { ⌜ (rows ≡ rowsOf k) × (blocks ≡ rowsOf g) × (reach k kept + reach g gathered < start) × (start + rows * k .r3 ≤ length (now values)) × SmallIn (now values) (kept .base) (reach k kept + reach g gathered + 1) × Room (now values) start (rows * k .r3) (blocks * g .r3) ⌝ }
     ensures { λ _. ⌜ now (values .exit) ≡ taken (combineOf how) (pos 0) (now (values .entry)) start (rows * k .r3) (λ (e i : ℕ). place k kept e + place g gathered i) (blocks * g .r3) ⌝ }
 {
     let mut j = 0;
@@ -352,7 +352,7 @@ pub fn reduce(
     blocks: usize,
     start: usize,
 )
-    requires { ⌜ (rows ≡ rowsOf k) × (blocks ≡ rowsOf g) × (gathered .base ≡ 0) × (0 < cellsOf g) × (cellsOf g ≤ 1048576) × (reach k kept + reach g gathered < start) × (start + rows * k .r3 ≤ length (now values)) × (start + rows * k .r3 ≤ length (now flags)) × SmallBefore (now values) start ⌝ }
+    requires { ⌜ (rows ≡ rowsOf k) × (blocks ≡ rowsOf g) × (gathered .base ≡ 0) × (0 < cellsOf g) × (cellsOf g ≤ 1048576) × (reach k kept + reach g gathered < start) × (start + rows * k .r3 ≤ length (now values)) × (start + rows * k .r3 ≤ length (now flags)) × SmallIn (now values) (kept .base) (reach k kept + reach g gathered + 1) ⌝ }
     ensures { λ _. ⌜ now (values .exit) ≡ reducedValues how (now (values .entry)) (now (flags .entry)) k kept g gathered start ⌝ }
     ensures { λ _. ⌜ now (flags .exit) ≡ reducedFlags (now (flags .entry)) k kept g gathered start ⌝ }
 {

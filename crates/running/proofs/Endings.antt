@@ -19,8 +19,8 @@ use Rattle.runner.specs.Inputs.{inputLimits, inputCells, testInputs}
 use Rattle.runner.specs.Run.{noField, nodeField, fieldsTo, fieldsOf, runAccepted, run, runAnswer, valuesAfter, flagsAfter, valueOf, flagOf, gapCount}
 use Rattle.runner.proofs.Fields.{fields-length, field-at}
 use Rattle.inputs.specs.Scanning.{gapsFrom, scanned}
-use Rattle.scheduling.specs.Running.{laidTo, Checked}
-use Rattle.scheduling.proofs.EndToEnd.{total-whole, cellsAt, cells-count, laid-length, laid-read, laid-all}
+use Rattle.running.specs.Running.{laidTo, Checked}
+use Rattle.running.proofs.EndToEnd.{total-whole, cellsAt, cells-count, laid-length, laid-read, laid-all}
 use Rattle.running.proofs.Gaps.{gaps-counted}
 
 -- what a run answers and leaves in both buffers

@@ -1,14 +1,103 @@
 // The run of a plan: every node's cells, end to end, into two result buffers.
 ghost use mathlib.Core.Path.{_≡_};
-ghost use Prim.Native.Nat.{_+_, _-_, _≤_, _<_};
+ghost use mathlib.Core.Bool.{cond};
+ghost use mathlib.Core.List.{[]};
+ghost use Prim.Native.Nat.{_+_, _^_, _/_, _%_, _-_, _≤_, _<_};
+ghost use lib.Dec.{eqb};
 ghost use lib.ListN.{length, getD};
+ghost use Rattle.plan.specs.Words.{nodeAt, ifParam};
+ghost use Rattle.shapes.specs.Shown.{shown};
 ghost use Rattle.rules.specs.Rules.{noSource};
 ghost use Rattle.verifier.specs.Check.{countOf, totalOf};
-ghost use Rattle.runner.specs.Run.{run, runAnswer, valuesAfter, flagsAfter};
+ghost use Rattle.cells.specs.Nodes.{Operands};
+ghost use Rattle.runner.specs.Inputs.{inputCells};
+ghost use Rattle.runner.specs.Run.{run, runAnswer, valuesAfter, flagsAfter, valueOf, flagOf};
 ghost use Rattle.inputs.specs.Nodes.{nodesOf};
 ghost use Rattle.inputs.specs.Scanning.{gapsFrom};
-ghost use Rattle.scheduling.specs.Running.{Checked};
+ghost use Rattle.evaluation.specs.Standing.{Evaluates};
+ghost use Rattle.running.specs.Running.{nodeExtents, nodeStart, laidTo, Checked, Fed, Places, Turning, NodeReads};
+use evaluation::Operand;
 use rules::Record;
+
+// Source k, of record r, whose cells begin at `start`; no extents where the operation does not use it.
+fn operand(mask: usize, k: usize, r: Record, start: usize) -> Operand
+    requires { ⌜ k < 17 ⌝ }
+    ensures { λ o. ⌜ (shown (o .shape) ≡ cond (eqb (mask / 2 ^ k % 2) 1) (shown (r .extents)) []) × (o .base ≡ cond (eqb (mask / 2 ^ k % 2) 1) start 0) ⌝ }
+{
+    if plan::uses_word(mask, k) {
+        let e = r.extents;
+        return Operand {
+            shape: e,
+            base: start,
+        };
+    }
+    let none = rules::blank();
+    let e = none.extents;
+    Operand { shape: e, base: 0 }
+}
+
+// The cells of node i, from those of its sources in the buffers, or of a PARAM from the input from place `from` on; it answers how many of the input it took.
+pub fn run_node(
+    table: &[i64],
+    records: [Record; 256],
+    count: usize,
+    starts: [usize; 256],
+    i: usize,
+    given: &[i64],
+    known: &[u8],
+    from: usize,
+    values: &mut [i64],
+    flags: &mut [u8],
+) -> usize
+    requires { ⌜ Turning (now table) records count starts i (now given) (now known) from (now values) (now flags) ⌝ }
+    ensures { λ r. ⌜ (r ≡ ifParam (now (table .entry)) i (countOf (getD (nodesOf records count) i noSource))) × ((o : Operands) → NodeReads (now (table .entry)) (nodesOf records count) i (now (given .entry)) (now (known .entry)) from (now (values .entry)) (now (flags .entry)) o → Evaluates (nodeAt (now (table .entry)) i) (nodeExtents (nodesOf records count) i) o (now (values .entry)) (now (flags .entry)) (nodeStart (nodesOf records count) i) (now (values .exit)) (now (flags .exit))) ⌝ }
+{
+    let x = plan::node_at(table, i);
+    let mask = plan::used_mask(x.op);
+    let place1 = verifier::source_place(x.source1, i);
+    let place2 = verifier::source_place(x.source2, i);
+    let place3 = verifier::source_place(x.source3, i);
+    let a = operand(mask, 1, records[place1], starts[place1]);
+    let b = operand(mask, 2, records[place2], starts[place2]);
+    let d = operand(mask, 3, records[place3], starts[place3]);
+    let r = records[i];
+    let e = r.extents;
+    evaluation::eval_node(x, e, a, b, d, given, known, from, values, flags, starts[i]);
+    inputs::input_size(x.op, r)
+}
+
+// The cells of all nodes, one after another.
+fn run_nodes(
+    table: &[i64],
+    records: [Record; 256],
+    count: usize,
+    starts: [usize; 256],
+    given: &[i64],
+    known: &[u8],
+    values: &mut [i64],
+    flags: &mut [u8],
+)
+    requires { ⌜ Checked (now table) records count × Fed (now table) (nodesOf records count) (now given) (now known) × Places (nodesOf records count) starts (now values) (now flags) ⌝ }
+    ensures { λ _. ⌜ (now (values .exit) ≡ laidTo valueOf (now (table .entry)) (nodesOf records count) (inputCells (now (given .entry)) (now (known .entry))) count (now (values .entry))) × (now (flags .exit) ≡ laidTo flagOf (now (table .entry)) (nodesOf records count) (inputCells (now (given .entry)) (now (known .entry))) count (now (flags .entry))) ⌝ }
+{
+    let mut from = 0;
+    let mut i = 0;
+    while i < count {
+        from += run_node(
+            table,
+            records,
+            count,
+            starts,
+            i,
+            given,
+            known,
+            from,
+            values,
+            flags,
+        );
+        i += 1;
+    }
+}
 
 // The gaps of the last node.
 fn output_gaps(records: [Record; 256], count: usize, starts: [usize; 256], flags: &[u8]) -> usize
@@ -53,7 +142,7 @@ fn run_accepted(
         return plan::refused(found.number, found.place);
     }
     let starts = inputs::starts(records, count);
-    scheduling::run_nodes(table, records, count, starts, given, known, values, flags);
+    run_nodes(table, records, count, starts, given, known, values, flags);
     let gaps = output_gaps(records, count, starts, flags);
     plan::accepted(gaps as u64)
 }

@@ -1,5 +1,5 @@
 -- Rows of a view, one after another.
-use Prim.Native.Nat.{ℕ, _+_, _*_, _≤_, _<_}
+use Prim.Native.Nat.{ℕ, _+_, _*_, _/_, _≤_, _<_}
 use mathlib.Core.Path.{_≡_}
 use native.Mathlib.Omega.{arith}
 use native.Mathlib.Nat.{add-mul, one-mul, mul-le-mul-right}
@@ -13,6 +13,15 @@ use Rattle.views.proofs.Steps.{step-le, row-le}
 pub place-row : (g : Row) (v : View) (i c : ℕ) → c < g .r3 → place g v (i * g .r3 + c) ≡ rowPlace g v i + step (g .r3) (v .s3) c
 unfolding place
 place-row g v i c h = rw (digits-div i h, digits-mod i h)
+
+-- no row and no cell lies before the view
+pub base-row : (g : Row) (v : View) (i : ℕ) → v .base ≤ rowPlace g v i
+unfolding rowPlace
+base-row g v i = omega arith
+
+pub base-place : (g : Row) (v : View) (j : ℕ) → v .base ≤ place g v j
+unfolding place
+base-place g v j = omega (arith, base-row g v (j / g .r3))
 
 module _ (g : Row) (v : View) {n : ℕ} (h : reach g v < n) where
   pub rows-below : rowReach g v < n

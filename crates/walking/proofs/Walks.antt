@@ -20,13 +20,13 @@ merged-alike : (g : Row) (v : View) → canMerge g v ≡ true → 0 < cellsOf g 
 merged-alike g v can some =
     let own : Walks g v 0 (cellsOf g) (suc (reach g v)) (place g v) = record { cells = refl; at = λ j h. sym (zero-add (place g v j)); inside = omega arith } in
     let w = merged-walks g v can some own in
-    record { near = λ j h. w .at j h ∙ zero-add (place g v j); far = omega (arith, w .inside) }
+    record { near = λ j h. w .at j h ∙ zero-add (place g v j); far = omega (arith, w .inside); begins = omega arith }
 
 merged-cells : (g : Row) → cellsOf (mergedGrid g) ≡ cellsOf g
 merged-cells g = simp (one-mul, mul-assoc)
 
 alike-then : {g h k : Row} {v u t : View} → cellsOf h ≡ cellsOf g → Alike g v h u → Alike h u k t → Alike g v k t
-alike-then e p q = record { near = λ j l. q .near j (rw e l) ∙ p .near j l; far = omega (arith, p .far, q .far) }
+alike-then e p q = record { near = λ j l. q .near j (rw e l) ∙ p .near j l; far = omega (arith, p .far, q .far); begins = omega (arith, p .begins, q .begins) }
 
 pub still-then : {w r t : Walk} → Still w r → Still r t → Still w t
 still-then p q =

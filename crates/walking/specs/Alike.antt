@@ -6,10 +6,11 @@ use Rattle.views.specs.declared.View.{View}
 use Rattle.views.specs.Views.{cellsOf, place, reach}
 use Rattle.walking.specs.declared.Walk.{Walk}
 
--- view u over grid h has the elements of view v over grid g, and reaches no further
+-- view u over grid h has the elements of view v over grid g, begins no earlier and reaches no further
 pub record Alike (g : Row) (v : View) (h : Row) (u : View) : Type 0 where
   pub near : (j : ℕ) → j < cellsOf g → place h u j ≡ place g v j
   pub far : reach h u ≤ reach g v
+  pub begins : v .base ≤ u .base
 
 -- the same of three views
 pub record Still (w r : Walk) : Type 0 where

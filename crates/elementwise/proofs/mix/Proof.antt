@@ -66,7 +66,7 @@ mix-long-row-requires c κs =
       omega (arith, i .inv, s .pre, fits),
       omega (arith, i .inv, s .pre, fits),
       small-row v (a .g) (a .a) (s .pre .8) (s .pre .3) few (first .0),
-      small-row v (a .g) (a .b) (s .pre .8) (s .pre .4) few (second .0),
+      small-row v (a .g) (a .b) (s .pre .9) (s .pre .4) few (second .0),
     )
 
 add-to : tie.Need-add-to Inv-loop μ-loop

@@ -1,5 +1,6 @@
+use Rattle.shapes.specs.Shown.{shown}
 use native.Mathlib.Omega.{arith}
-use Rattle.evaluation.proofs.Mixed.{spread-near, mixed-evaluates}
+use Rattle.evaluation.proofs.Mixed.{spread-near, spread-small, mixed-evaluates}
 use borrow.Author.Needs.{needs}
 use Rattle.evaluation.proofs.eval_mixed.Statement.{statement}
 use Rattle.evaluation.proofs.eval_mixed.Tie as tie
@@ -9,11 +10,12 @@ mixed-walk-requires c κs = search needs
 
 mix-cells-requires : tie.Need-mix-cells-requires
 mix-cells-requires c κs =
+    let a = c .before .before .before .before .args in
     let p = c .before .before .before .before .pre in
     let w = c .before .before .mixed-walk .ensures in
     let cells = w .first .cells in
     let room = p .3 in
-    (p .0, p .1, spread-near w (p .5) (p .6) (p .7), omega (arith, cells, room .some), omega (arith, cells, room .values), omega (arith, cells, room .flags), p .4)
+    (p .0, p .1, spread-near w (p .6) (p .7) (p .8), omega (arith, cells, room .some), omega (arith, cells, room .values), omega (arith, cells, room .flags), spread-small (a .values .now) (shown (a .a .shape)) (shown (a .r)) (w .first) (p .4), spread-small (a .values .now) (shown (a .b .shape)) (shown (a .r)) (w .second) (p .5))
 
 same-length : tie.Need-same-length
 same-length c = search needs

@@ -29,7 +29,7 @@ returns-2 : tie.Need-returns-2
 returns-2 c = λ o reads. c .before .before .before .eval-param .ensures o (reads .input (c .before .before .before .before .before .before .if2 .taken))
 
 eval-reduced-requires : tie.Need-eval-reduced-requires
-eval-reduced-requires c κs = let p = c .before .before .before .before .before .before .before in let x = p .args .x in let q = p .pre in (reduced-right x _ _ _ _ (q .right) (c .before .before .if3 .taken), q .room, q .first (reduce-uses (x .op) (c .before .before .if3 .taken)), q .small)
+eval-reduced-requires c κs = let p = c .before .before .before .before .before .before .before in let x = p .args .x in let q = p .pre in (reduced-right x _ _ _ _ (q .right) (c .before .before .if3 .taken), q .room, q .first (reduce-uses (x .op) (c .before .before .if3 .taken)), q .small-first (reduce-uses (x .op) (c .before .before .if3 .taken)))
 
 same-length-5 : tie.Need-same-length-5
 same-length-5 c = search needs
@@ -41,7 +41,7 @@ returns-3 : tie.Need-returns-3
 returns-3 c = λ o reads. c .before .before .before .eval-reduced .ensures o (reads .first (reduce-uses _ (c .before .before .before .before .before .before .if3 .taken)))
 
 eval-mixed-requires : tie.Need-eval-mixed-requires
-eval-mixed-requires c κs = let p = c .before .before .before .before .before .before .before .before in let x = p .args .x in let q = p .pre in let m = mixed-range (x .op) (c .before .before .if4 .taken) in let e = mixed-uses (x .op) (m .0) (m .1) in (m .0, m .1, q .right, q .room, q .small, q .first (e .0), q .second (e .1), λ w. q .third (where-uses (x .op) w))
+eval-mixed-requires c κs = let p = c .before .before .before .before .before .before .before .before in let x = p .args .x in let q = p .pre in let m = mixed-range (x .op) (c .before .before .if4 .taken) in let e = mixed-uses (x .op) (m .0) (m .1) in (m .0, m .1, q .right, q .room, q .small-first (e .0), q .small-second (e .1), q .first (e .0), q .second (e .1), λ w. q .third (where-uses (x .op) w))
 
 same-length-7 : tie.Need-same-length-7
 same-length-7 c = search needs

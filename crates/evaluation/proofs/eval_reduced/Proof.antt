@@ -102,7 +102,7 @@ reduce-requires c κs =
       rw view (omega (arith, within, w .a .far, p .pre .2)),
       rw rows (omega (arith, w .cells, cells, room .values)),
       rw rows (omega (arith, w .cells, cells, room .flags)),
-      p .pre .3,
+      λ q low high. p .pre .3 q (omega (arith, w .a .begins)) (omega (arith, within, w .a .far, rw view at high)),
     )
 
 same-length : tie.Need-same-length

@@ -1,5 +1,5 @@
 use native.Mathlib.Omega.{arith}
-use Rattle.evaluation.proofs.Mixed.{mixed-both}
+use Rattle.evaluation.proofs.Mixed.{mixed-both, seen-alike}
 use borrow.Author.Needs.{needs}
 use Rattle.evaluation.proofs.mix_cells.Statement.{statement}
 use Rattle.evaluation.proofs.mix_cells.Tie as tie
@@ -16,7 +16,7 @@ mix-requires c κs =
     let w = c .before .before .before .settle .ensures in
     let n = c .before .before .rows .ensures in
     let near = p .pre .2 in
-    (p .pre .0, p .pre .1, n, omega (arith, w .a .far, near .a), omega (arith, w .b .far, near .b), omega (arith, w .d .far, near .d), rw n (omega (arith, w .cells, p .pre .4)), rw n (omega (arith, w .cells, p .pre .5)), p .pre .6)
+    (p .pre .0, p .pre .1, n, omega (arith, w .a .far, near .a), omega (arith, w .b .far, near .b), omega (arith, w .d .far, near .d), rw n (omega (arith, w .cells, p .pre .4)), rw n (omega (arith, w .cells, p .pre .5)), seen-alike (p .args .values .now) (w .cells) (w .a) (p .pre .6), seen-alike (p .args .values .now) (w .cells) (w .b) (p .pre .7))
 
 same-length : tie.Need-same-length
 same-length c = search needs

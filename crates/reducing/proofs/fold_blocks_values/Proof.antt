@@ -4,12 +4,12 @@ use native.Mathlib.Omega.{arith}
 use lib.IntN.{pos}
 use lib.ListN.{length}
 use Rattle.laws.proofs.Store.{length-store}
-use Rattle.views.specs.Views.{place}
+use Rattle.views.specs.Views.{place, reach}
 use Rattle.views.proofs.RowPlaces.{rows-below}
 use Rattle.reducing.specs.Folding.{combineOf}
 use Rattle.reducing.specs.Gathering.{taken}
 use Rattle.reducing.proofs.Folds.{blocks-none}
-use Rattle.reducing.proofs.Grids.{sources-near, offset-near, block-turn}
+use Rattle.reducing.proofs.Grids.{sources-small, offset-near, block-turn}
 use Rattle.reducing.proofs.Rooms.{small-kept, room-block}
 use borrow.Author.Needs.{needs}
 use Rattle.reducing.proofs.fold_blocks_values.Statement.{statement}
@@ -42,9 +42,9 @@ fold-rows-values-requires c κs =
       p .pre .0,
       near,
       omega (arith, v .1, p .pre .3),
-      small-kept _ _ _ _ _ e (a .start) _ (p .pre .4) (omega arith) (omega arith),
-      room-block (a .how) _ _ (a .start) (a .rows * a .k .r3) (q .loop .j) (a .blocks) (a .g .r3) _ (p .pre .3) e (p .pre .4)
-          (sources-near (a .k) (a .kept) (a .g) (a .gathered) (a .start) (a .rows) (a .blocks) (p .pre .2) (p .pre .0) (p .pre .1)) (p .pre .5) (c .before .before .loop-test .taken),
+      small-kept _ _ _ _ _ e (p .pre .4) (omega (arith, p .pre .2)) (omega arith) (omega (arith, offset-near (a .k) (a .kept) (a .g) (a .gathered) (reach (a .k) (a .kept) + reach (a .g) (a .gathered) + 1) (omega arith) (c .before .row-place .ensures .1))),
+      room-block (a .how) _ _ (a .start) (a .rows * a .k .r3) (q .loop .j) (a .blocks) (a .g .r3) _ (p .pre .3) e
+          (sources-small (a .k) (a .kept) (a .g) (a .gathered) (a .values .now) (a .rows) (a .blocks) (p .pre .4) (p .pre .0) (p .pre .1)) (p .pre .5) (c .before .before .loop-test .taken),
     )
 
 add-j : tie.Need-add-j Inv-loop μ-loop

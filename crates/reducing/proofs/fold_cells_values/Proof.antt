@@ -50,7 +50,7 @@ combine-requires c κs =
     let q = c .before .before .before .before in
     let p = q .before in
     let less = c .before .before .before .loop-test .taken in
-    cell-room _ _ _ _ _ (q .loop .inv .2) _ _ _ (p .pre .2) (omega (arith, p .pre .0)) (omega (arith, c .before .before .step-at .ensures)) (p .pre .3) less
+    cell-room _ _ _ _ _ (q .loop .inv .2) _ _ (p .pre .2) (omega (arith, p .pre .0)) (omega arith) (omega (arith, c .before .before .step-at .ensures)) (p .pre .3) less
 
 add-r : tie.Need-add-r Inv-loop μ-loop
 add-r c = search needs
@@ -79,7 +79,7 @@ loop-again c =
       search needs,
       store-step _ _ _ _ _ _ e
           (cell-turn _ _ _ _ _ _ (a .p) (a .n) (a .a) _ e (p .pre .0) less (at .0) (room-read _ _ _ _ _ e (a .n) 1 (p .pre .3) less)
-          (small-read _ _ _ _ _ e _ _ (p .pre .2) (omega (arith, p .pre .0)) (omega (arith, at)))
+          (small-read _ _ _ _ _ e _ (p .pre .2) (omega (arith, p .pre .0)) (omega arith) (omega (arith, at)))
           (R-is (fit-at (c .combine .result) (c .combine .ok))) (c .combine .ensures)),
     )
 

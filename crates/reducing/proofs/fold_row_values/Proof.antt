@@ -7,7 +7,7 @@ use Rattle.reducing.proofs.fold_row_values.Tie as tie
 cells-values-requires : tie.Need-cells-values-requires
 cells-values-requires c κs =
     let p = c .before .before in
-    (omega (arith, p .pre .0), p .pre .1, λ q h. p .pre .2 q (omega arith), rw (c .before .if1 .taken) at (p .pre .3))
+    (omega (arith, p .pre .0), p .pre .1, λ q v h. p .pre .2 q v (omega arith), rw (c .before .if1 .taken) at (p .pre .3))
 
 same-length : tie.Need-same-length
 same-length c = search needs

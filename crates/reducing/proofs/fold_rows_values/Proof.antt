@@ -6,7 +6,7 @@ use lib.IntN.{pos}
 use lib.ListN.{length}
 use Rattle.laws.proofs.Store.{store-none, length-store}
 use Rattle.views.specs.Views.{step, span, place, reach}
-use Rattle.views.proofs.RowPlaces.{rows-below, next-block, block-fits}
+use Rattle.views.proofs.RowPlaces.{rows-below, base-row, next-block, block-fits}
 use Rattle.reducing.specs.Folding.{combineOf}
 use Rattle.reducing.specs.Gathering.{taken}
 use Rattle.reducing.proofs.Grids.{row-near, row-turn}
@@ -46,7 +46,7 @@ fold-row-values-requires c κs =
     let e = q .loop .inv .3 in (
       omega (arith, near, q .loop .inv .1),
       omega (arith, q .loop .inv .1, q .loop .inv .2, p .pre .2, fits),
-      small-kept _ _ _ _ _ e (a .start) _ (p .pre .3) (omega arith) (omega (arith, near)),
+      small-kept _ _ _ _ _ e (p .pre .3) (omega (arith, p .pre .1)) (omega (arith, c .before .row-place .ensures .0, base-row (a .k) (a .kept) (q .loop .i))) (omega (arith, row-near (a .k) (a .kept) (a .offset + span (a .m) (a .b)) (reach (a .k) (a .kept) + (a .offset + span (a .m) (a .b)) + 1) (omega arith) (c .before .row-place .ensures .1))),
       room-ahead _ _ _ _ _ e (a .rows * a .k .r3) (a .m) (p .pre .4) (q .loop .inv .1) fits,
     )
 

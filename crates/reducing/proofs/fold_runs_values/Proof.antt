@@ -48,7 +48,7 @@ run-values-requires c κs =
     let e = q .loop .inv .2 in (
       omega (arith, near, c .step-at .ensures, p .pre .0, p .pre .1, q .loop .inv .1),
       room-at _ _ _ _ _ e (a .n) (a .m) (p .pre .3) (c .before .before .before .loop-test .taken),
-      small-kept _ _ _ _ _ e _ _ (p .pre .2) (omega (arith, p .pre .0)) (omega (arith, c .step-at .ensures)),
+      small-kept _ _ _ _ _ e (p .pre .2) (omega (arith, p .pre .0)) (omega arith) (omega (arith, c .step-at .ensures)),
     )
 
 add-r : tie.Need-add-r Inv-loop μ-loop

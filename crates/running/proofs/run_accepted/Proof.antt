@@ -6,8 +6,8 @@ use Rattle.verifier.specs.Check.{totalOf}
 use Rattle.runner.specs.Inputs.{inputLimits}
 use Rattle.runner.proofs.Completes.{run-completes}
 use Rattle.inputs.specs.Nodes.{nodesOf}
-use Rattle.scheduling.specs.Running.{Fed}
-use Rattle.scheduling.proofs.Plans.{as-many, some-node, table-long, limited}
+use Rattle.running.specs.Running.{Fed}
+use Rattle.running.proofs.Plans.{as-many, some-node, table-long, limited}
 use Rattle.running.proofs.Endings.{refusal-ends, wrong-values, wrong-flags, short-values, short-flags, bad-input, good-input, output-room, completes}
 use borrow.Author.Needs.{needs}
 use Rattle.running.proofs.run_accepted.Statement.{statement}

@@ -1,4 +1,0 @@
-pub mod EndToEnd
-pub mod Plans
-pub mod Turns
-pub mod Grouped
