@@ -49,7 +49,7 @@ uint64_t lup_unpack_check(const uint8_t *bytes, size_t nbytes);
  * them stay as they were. count: the gaps of the last node, the output. Refusals, in order: those of lup_check but its 14; 13, a length of the
  * input is not the number of all PARAM elements; 14, a result buffer is shorter than all elements of all nodes; 15 or 16 at the first bad
  * position of the input (place: that position): a flag neither 0 nor 1; a known number outside its PARAM's low and high.
- * Stack: 54,968 bytes measured on a plan with every kind of node, 40 of them one after another that can be run together (painted stack, x86-64); 80 KiB is enough. */
+ * Stack: 62,136 bytes measured on a plan with every kind of node (painted stack, x86-64); 80 KiB is enough. */
 lup_answer lup_run(const int64_t *table, size_t nwords, const int64_t *values, size_t nvalues, const uint8_t *flags, size_t nflags,
                    int64_t *out_values, size_t nout_values, uint8_t *out_flags, size_t nout_flags);
 

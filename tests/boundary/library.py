@@ -106,6 +106,7 @@ class Library:
         self.calls.lup_run.restype = Answer
         self.calls.lup_lookup.argtypes = [ctypes.c_void_p, ctypes.c_size_t, ctypes.c_uint64, ctypes.c_uint64]
         self.calls.lup_lookup.restype = Found
+        self.made = 0
         self.bytes = Bytes()
         self.inputs = [Bytes(40000), Bytes(MOST_INPUT_BYTES), Bytes(MOST_INPUT_BYTES)]
 
@@ -114,6 +115,7 @@ class Library:
         table = Table(words)
         source = None if null and not data else self.bytes.put(data)
         target = None if null and not words else table.start
+        self.made += 1
         answer = self.calls.lup_unpack(source, len(data), target, table.room).triple()
         return answer, table.words(), table.guards_hold() and self.bytes.hold(data)
 
@@ -122,12 +124,14 @@ class Library:
         table, derived = Table(plan), Table(words)
         source = None if null and not plan else table.start
         target = None if null and not words else derived.start
+        self.made += 1
         answer = self.calls.lup_check(source, table.room, target, derived.room).triple()
         return answer, derived.words(), table.guards_hold() and table.words() == plan and derived.guards_hold()
 
     def unpack_check(self, data, null=False):
         """The answer, and whether the bytes are as they were."""
         source = None if null and not data else self.bytes.put(data)
+        self.made += 1
         return self.calls.lup_unpack_check(source, len(data)), self.bytes.hold(data)
 
     def run(self, plan, values, flags, out_values, out_flags, null=False):
@@ -138,6 +142,7 @@ class Library:
         starts = [memory.put(data) for memory, data, _ in inputs] + [result.start for result in results]
         rooms = [room for _, _, room in inputs] + [len(out_values), len(out_flags)]
         starts = [None if null and room == 0 else start for start, room in zip(starts, rooms)]
+        self.made += 1
         answer = self.calls.lup_run(*(argument for pair in zip(starts, rooms) for argument in pair)).triple()
         unchanged = all(memory.hold(data) for memory, data, _ in inputs) and all(result.guards_hold() for result in results)
         return answer, *(result.items() for result in results), unchanged
@@ -147,4 +152,5 @@ class Library:
         cannot be read; where there are none, NULL."""
         data = plan.tobytes()
         start = self.inputs[0].put(data) if data else None
+        self.made += 1
         return self.calls.lup_lookup(start, len(plan), node, element).five(), self.inputs[0].hold(data)

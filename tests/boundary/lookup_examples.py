@@ -2,7 +2,7 @@
 
 from collections import namedtuple
 
-from cases import LARGE, apply, const, large, move, node, param, reduce_node
+from cases import LARGE, apply, at_axis, const, large, move, node, param, reduce_node
 from model import ADD, CAST, EXPAND, FLIP, LOAD, MOD, PAD, PERMUTE, RESHAPE, SHRINK, WHERE
 
 BOOL, U8, I16, I32 = range(4)
@@ -17,6 +17,11 @@ def found(name, table, node, *places):
     return [Example(f'{name}, element {k}', table, node, k, (0, 0, 2, 0, 0) if place is None else (0, 0, 1, *place)) for k, place in enumerate(places)]
 
 
+def found_at(name, table, element, source):
+    """One element of node 1, and the element of node 0 that it comes from, or None for a gap."""
+    return Example(f'{name}, element {element}', table, 1, element, (0, 0, 2, 0, 0) if source is None else (0, 0, 1, 0, source))
+
+
 def refused(name, number, place, table, node=0, element=0):
     return Example(name, table, node, element, (number, place, 0, 0, 0))
 
@@ -25,6 +30,8 @@ PAIR = param(0, I16, 0, 9, (2,))
 SIX = param(0, I16, 0, 9, (2, 3))
 PADDED = PAIR + move(PAD, 0, (5,), (1,))
 TURNED = SIX + move(PERMUTE, 0, (1, 0))
+SIXTEEN = param(0, I16, 0, 9, (2, 2, 2, 2))
+FOUR = param(0, I16, 0, 9, (2, 1, 2, 1))
 FOUND = [
     # "● PERMUTE (1,0) of 2x3: element 3 is source element 4."
     *found('PERMUTE (1,0) of 2x3', TURNED, 1, (0, 0), (0, 3), (0, 1), (0, 4), (0, 2), (0, 5)),
@@ -46,6 +53,20 @@ FOUND = [
     # "PAD: same rank, offset o_k + s_k ≤ s'_k. SHRINK: same rank, o_k + s'_k ≤ s_k."
     *found('PAD of 1x2 to 2x3 at 1, 1', param(0, I16, 0, 9, (1, 2)) + move(PAD, 0, (2, 3), (1, 1)), 1, None, None, None, None, (0, 0), (0, 1)),
     *found('SHRINK of 2x3 to 1x2 at 1, 1', SIX + move(SHRINK, 0, (1, 2), (1, 1)), 1, (0, 4), (0, 5)),
+    # the same by each single axis of four, in 2x2x2x2, whose element 5 is at 0, 1, 0, 1
+    *(found_at(f'FLIP of axis {axis} of four', SIXTEEN + move(FLIP, 0, at_axis(axis, 1)), 5, source) for axis, source in enumerate((13, 1, 7, 4))),
+    found_at('FLIP of axes 0 and 2 of four', SIXTEEN + move(FLIP, 0, (1, 0, 1, 0)), 5, 15),
+    *(found_at(f'SHRINK of axis {axis} of four', SIXTEEN + move(SHRINK, 0, at_axis(axis, 1, 2), at_axis(axis, 1)), 5, source)
+      for axis, source in enumerate((13, 13, 11, 11))),
+    *(found_at(f'EXPAND of axis {axis} of four', param(0, I16, 0, 9, at_axis(axis, 1, 2)) + move(EXPAND, 0, (2, 2, 2, 2)), 15, 7) for axis in range(4)),
+    *(found_at(f'PERMUTE {turn}', SIXTEEN + move(PERMUTE, 0, turn), 5, source)
+      for turn, source in (((1, 0, 2, 3), 9), ((0, 2, 1, 3), 3), ((0, 1, 3, 2), 6), ((1, 2, 3, 0), 10), ((3, 0, 1, 2), 10))),
+    *(found_at(f'PAD of axis {axis} of four', FOUR + move(PAD, 0, shape, at_axis(axis, 1)), element, source)
+      for axis, shape, pairs in ((0, (4, 1, 2, 1), ((1, None), (2, 0), (6, None))), (1, (2, 3, 2, 1), ((1, None), (8, 2), (10, None))),
+                                 (2, (2, 1, 4, 1), ((4, None), (5, 2), (7, None))), (3, (2, 1, 2, 3), ((3, None), (4, 1), (5, None))))
+      for element, source in pairs),
+    # "A shape row is rank extents of 1..1048576"
+    *(found_at('FLIP of 1048576', large((LARGE,)) + move(FLIP, 0, (1,)), element, LARGE - 1 - element) for element in (0, 65536, LARGE - 1)),
     # "follows nodes 2–7 and 20 back .. to the first other node": all of them, one after another
     *found('a chain', SIX + move(PERMUTE, 0, (1, 0)) + move(FLIP, 1, (1, 0)) + move(RESHAPE, 2, (1, 6)) + move(EXPAND, 3, (2, 6)) + move(PAD, 4, (3, 6), (1, 0))
            + move(SHRINK, 5, (2, 2), (0, 1)) + node(LOAD, {1: 6, 6: 2}), 7, None, None, (0, 5), (0, 1)),

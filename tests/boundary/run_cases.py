@@ -57,14 +57,13 @@ def depth(table):
     return max(lengths)
 
 
-def groups(table, records):
-    """The binary operations and WHEREs of one size that stand one after another: of each how many so far, and their size."""
-    size = length = 0
+def computed_in_a_row(table, records):
+    """Each binary operation and WHERE: how many of them stand one after another up to this one, and how many cells it has."""
+    length = 0
     for k, record in enumerate(records):
-        mixes, count = ADD <= table[17 * k] <= WHERE, prod(record.extents)
-        length = length + 1 if mixes and length and count == size else int(mixes)
-        size = count
-        yield length, size
+        length = length + 1 if ADD <= table[17 * k] <= WHERE else 0
+        if length:
+            yield length, prod(record.extents)
 
 
 def params_of(table):
@@ -117,8 +116,8 @@ def chain_runs(rng, count):
         yield Run(f'chain {turn}', plan.table, *inputs_of(rng, plan.table, rng.choice((0, 0.02, 0.1))))
 
 
-def grouped_plan(late, half, nodes, others):
-    """Binary operations and WHEREs of 2 * half cells in two shapes one after another, few other nodes between them."""
+def computed_plan(late, half, nodes, others):
+    """Binary operations and WHEREs of 2 * half cells in two shapes one after another, each on those before it; few other nodes between them."""
     plan = Chain(nodes * 2 * half, 2 * half)
     kinds = [(I16, -9, 9), (I16, 2, 9), (0, 0, 1)]
     for slot, (shape, kind) in enumerate(product(((2 * half,), (2, half), ()), kinds)):
@@ -129,14 +128,14 @@ def grouped_plan(late, half, nodes, others):
     return plan.table
 
 
-def grouped_runs(rng, count):
-    """Groups of sizes about what is done at once: a few cells, 1024 cells, a tile of 16384, several tiles."""
+def computed_runs(rng, count):
+    """The same with rows of a few cells, and of about 1024 cells, the part of a row that is done at once, and twice as many."""
     late = Late(rng.randrange(2 ** 32))
-    sizes = [(1, 2, 4, 512, 513)[turn % 5] for turn in range(count)] + [8191, 8192, 8193, 16385]
-    for turn, half in enumerate(sizes):
-        nodes = 18 if half > 513 else rng.choice((20, 60)) if half > 4 else rng.choice((20, 60, 120))
-        table = grouped_plan(late, half, nodes, [] if turn % 3 else [FLIP, CAST, LOAD, 0])
-        note, share = f'grouped {turn}', rng.choice((0, 0.001, 0.1))
+    for turn in range(count):
+        half = (1, 512, 2, 1023, 4, 1024, 513, 1025)[turn % 8]
+        nodes = {1: 120, 2: 120, 4: 120, 512: 60, 513: 60}.get(half, 45) // (1 + 2 * (turn // 8 % 2))
+        table = computed_plan(late, half, nodes, [] if turn % 3 else [FLIP, CAST, LOAD, 0])
+        note, share = f'computed {turn}, rows of {half} and {2 * half}', rng.choice((0, 0.001, 0.1))
         yield Run(note, table, *inputs_of(rng, table, share))
         yield Run(note + ', gaps at edges', table, *at_edges(rng, table))
 
@@ -242,7 +241,7 @@ def at_edges(rng, table):
 
 def long_runs(rng):
     """Every binary operation and WHERE on rows about as long as what is done at once: eight cells, 1024 cells."""
-    for n, (first, second) in product((7, 8, 9, 1024, 1025, 2049), (('n', 'n'), ('n', ''), ('', 'n'), ('2n', 'n'), ('2n', '2'))):
+    for n, (first, second) in product((7, 8, 9, 1023, 1024, 1025, 2049), (('n', 'n'), ('n', ''), ('', 'n'), ('2n', 'n'), ('2n', '2'))):
         shapes = [{'': (), 'n': (n,), '2n': (2, n), '2': (2, 1)}[shape] for shape in (first, second)]
         table = param(0, I16, -WIDE, WIDE, shapes[0]) + param(1, I16, 2, 9, shapes[1]) + param(2, I16, -WIDE, WIDE, shapes[1])
         table += param(3, 0, 0, 1, shapes[0]) + param(4, 0, 0, 1, shapes[1])

@@ -4,7 +4,7 @@ An input is a number (known), GAP (flag 0 over a number that no limits hold) or 
 
 from collections import namedtuple
 
-from cases import BIG, LARGE, apply, const, large, move, node, param, reduce_node
+from cases import BIG, LARGE, apply, at_axis, const, large, move, node, param, reduce_node
 from model import (ADD, AND, CAST, CMPLT, CMPNE, EXPAND, FLIP, IDIV, LOAD, MAX, MOD, MUL, OR, PAD, PERMUTE, RESHAPE, SHRINK, WHERE)
 
 GAP = None
@@ -28,7 +28,7 @@ def completes(name, table, inputs, *nodes, more=(0, 0)):
     return Example(name, table, *split(inputs), rooms, (0, 0, nodes[-1].count(GAP)), elements)
 
 
-def refused(name, number, place, table, inputs, rooms=(40, 40), flags=None):
+def refused(name, number, place, table, inputs, rooms=(9, 9), flags=None):
     """A run that is refused; flags only where their length is not that of the values."""
     values, own = split(inputs)
     return Example(name, table, values, own if flags is None else flags, rooms, (number, place, 0), None)
@@ -138,6 +138,107 @@ MOVEMENTS = [
               [5], [1, 2, GAP, 4], [5, 10, GAP, 20]),
 ]
 
+# ------------------------------------------------------- four axes, each alone
+
+SIXTEEN, NUMBERED = param(0, I16, 0, 15, (2, 2, 2, 2)), list(range(16))
+MIXED = [0, 9, 2, 7, 4, 5, 6, 3, 8, 1, 10, 15, 12, 13, 14, 11]
+FLAGS = [*(at_axis(axis, 1) for axis in range(4)), (1, 0, 1, 0), (0, 1, 0, 1)]
+
+
+def of_sixteen(name, inputs, nodes, *results):
+    return completes(f'{name} of 2x2x2x2', SIXTEEN + sum(nodes, []), inputs, inputs, *results)
+
+
+FOUR_AXES = [
+    # "FLIP: flag 1 reverses."; "Elements are numbered row-major."
+    of_sixteen('FLIP of one axis or two', NUMBERED, [move(FLIP, 0, flags) for flags in FLAGS],
+               [8, 9, 10, 11, 12, 13, 14, 15, 0, 1, 2, 3, 4, 5, 6, 7], [4, 5, 6, 7, 0, 1, 2, 3, 12, 13, 14, 15, 8, 9, 10, 11],
+               [2, 3, 0, 1, 6, 7, 4, 5, 10, 11, 8, 9, 14, 15, 12, 13], [1, 0, 3, 2, 5, 4, 7, 6, 9, 8, 11, 10, 13, 12, 15, 14],
+               [10, 11, 8, 9, 14, 15, 12, 13, 2, 3, 0, 1, 6, 7, 4, 5], [5, 4, 7, 6, 1, 0, 3, 2, 13, 12, 15, 14, 9, 8, 11, 10]),
+    # "SHRINK: same rank, o_k + s'_k ≤ s_k.": to 1 at 1
+    of_sixteen('SHRINK of one axis', NUMBERED, [move(SHRINK, 0, at_axis(axis, 1, 2), at_axis(axis, 1)) for axis in range(4)],
+               [8, 9, 10, 11, 12, 13, 14, 15], [4, 5, 6, 7, 12, 13, 14, 15], [2, 3, 6, 7, 10, 11, 14, 15], [1, 3, 5, 7, 9, 11, 13, 15]),
+    # "PERMUTE: result axis k is source axis A_k."
+    of_sixteen('PERMUTE by five turns', NUMBERED, [move(PERMUTE, 0, turn) for turn in (
+        (1, 0, 2, 3), (0, 2, 1, 3), (0, 1, 3, 2), (1, 2, 3, 0), (3, 0, 1, 2))],
+               [0, 1, 2, 3, 8, 9, 10, 11, 4, 5, 6, 7, 12, 13, 14, 15], [0, 1, 4, 5, 2, 3, 6, 7, 8, 9, 12, 13, 10, 11, 14, 15],
+               [0, 2, 1, 3, 4, 6, 5, 7, 8, 10, 9, 11, 12, 14, 13, 15], [0, 8, 1, 9, 2, 10, 3, 11, 4, 12, 5, 13, 6, 14, 7, 15],
+               [0, 2, 4, 6, 8, 10, 12, 14, 1, 3, 5, 7, 9, 11, 13, 15]),
+    # "PAD: same rank, offset o_k + s_k ≤ s'_k.", "PAD's new cells are gaps.": two more, one on either side
+    completes('PAD of each single axis of 2x1x2x1', param(0, I16, 0, 9, (2, 1, 2, 1)) + move(PAD, 0, (4, 1, 2, 1), (1, 0, 0, 0))
+              + move(PAD, 0, (2, 3, 2, 1), (0, 1, 0, 0)) + move(PAD, 0, (2, 1, 4, 1), (0, 0, 1, 0)) + move(PAD, 0, (2, 1, 2, 3), (0, 0, 0, 1)),
+              [1, 2, 3, 4], [1, 2, 3, 4], [GAP, GAP, 1, 2, 3, 4, GAP, GAP], [GAP, GAP, 1, 2, GAP, GAP, GAP, GAP, 3, 4, GAP, GAP],
+              [GAP, 1, 2, GAP, GAP, 3, 4, GAP], [GAP, 1, GAP, GAP, 2, GAP, GAP, 3, GAP, GAP, 4, GAP]),
+    # "EXPAND: same rank, s_k is 1 or s'_k."
+    completes('EXPAND of each single axis to 2x2x2x2', param(0, I16, 0, 7, (8,)) + sum((move(RESHAPE, 0, at_axis(axis, 1, 2)) for axis in range(4)), [])
+              + sum((move(EXPAND, 1 + axis, (2, 2, 2, 2)) for axis in range(4)), []), NUMBERED[:8], *[NUMBERED[:8]] * 5,
+              [0, 1, 2, 3, 4, 5, 6, 7, 0, 1, 2, 3, 4, 5, 6, 7], [0, 1, 2, 3, 0, 1, 2, 3, 4, 5, 6, 7, 4, 5, 6, 7],
+              [0, 1, 0, 1, 2, 3, 2, 3, 4, 5, 4, 5, 6, 7, 6, 7], [0, 0, 1, 1, 2, 2, 3, 3, 4, 4, 5, 5, 6, 6, 7, 7]),
+    # "REDUCE: flagged axes become 1; rank stays."; "number 0 sum, 1 max"
+    of_sixteen('sum over one axis or two', NUMBERED, [reduce_node(0, 0, flags) for flags in FLAGS], [8, 10, 12, 14, 16, 18, 20, 22],
+               [4, 6, 8, 10, 20, 22, 24, 26], [2, 4, 10, 12, 18, 20, 26, 28], [1, 5, 9, 13, 17, 21, 25, 29], [20, 24, 36, 40], [10, 18, 42, 50]),
+    of_sixteen('greatest over one axis or two', MIXED, [reduce_node(0, 1, flags) for flags in FLAGS], [8, 9, 10, 15, 12, 13, 14, 11],
+               [4, 9, 6, 7, 12, 13, 14, 15], [2, 9, 6, 5, 10, 15, 14, 13], [9, 7, 5, 6, 8, 15, 13, 14], [10, 15, 14, 13], [9, 7, 13, 15]),
+    # "right-aligned; each axis equal or 1": 2, 2x1, 2x1x1 and 2x1x1x1, each pair in both orders
+    *(completes(f'ADD of every two ranks{order}', sum((param(k, I16, 0, 2000, (2, *[1] * k)) for k in range(4)), [])
+                + sum((apply(ADD, *pair[::turn]) for pair in ((1, 0), (2, 0), (2, 1), (3, 0), (3, 1), (3, 2))), []),
+                [1, 2, 10, 20, 100, 200, 1000, 2000], [1, 2], [10, 20], [100, 200], [1000, 2000], [11, 12, 21, 22], [101, 102, 201, 202],
+                [110, 120, 210, 220], [1001, 1002, 2001, 2002], [1010, 1020, 2010, 2020], [1100, 1200, 2100, 2200])
+      for order, turn in (('', 1), (', the lower first', -1))),
+    completes('ADD and WHERE of 2x1x1x3 and 3', param(0, I16, 0, 99, (2, 1, 1, 3)) + param(1, I16, 0, 99, (3,)) + param(2, BOOL, 0, 1, (3,))
+              + apply(ADD, 0, 1) + apply(ADD, 1, 0) + apply(WHERE, 2, 0, 1) + apply(WHERE, 2, 1, 0), [1, 2, 3, 4, GAP, 6, 10, 20, 30, 0, 1, 1],
+              [1, 2, 3, 4, GAP, 6], [10, 20, 30], [0, 1, 1], [11, 22, 33, 14, GAP, 36], [11, 22, 33, 14, GAP, 36], [10, 2, 3, 10, GAP, 6],
+              [1, 20, 30, 4, 20, 30]),
+    # bools of ranks 1 to 4 are nodes 0 to 3, numbers nodes 4 to 7
+    completes('WHERE of three ranks', sum((param(k, BOOL if k < 4 else I16, 0, 1 if k < 4 else 9, (2, *[1] * (k % 4))) for k in range(8)), [])
+              + sum((apply(WHERE, *three) for three in ((3, 4, 5), (0, 5, 6), (1, 6, 7), (2, 7, 4), (0, 5, 4))), []),
+              [1, 0, 0, 1, 1, 0, 0, 1, 1, 2, 3, 4, 5, 6, 7, 8], [1, 0], [0, 1], [1, 0], [0, 1], [1, 2], [3, 4], [5, 6], [7, 8],
+              [3, 3, 4, 4, 1, 2, 1, 2], [3, 5, 4, 5, 3, 6, 4, 6], [7, 5, 7, 6, 8, 5, 8, 6], [7, 7, 1, 2, 8, 8, 1, 2], [3, 2, 4, 2]),
+]
+
+# ------------------------------------------ every operation at every rank
+
+X, Y, P, Q = [-7, 5], [2, 3], [0, 1], [1, 1]
+
+
+def at_rank(rank, *results):
+    """Two numbers and two bools, or pairs of them on the last axis, by operations 2 to 20 (REDUCE by both numbers): the elements of each."""
+    ones, zeros = [1] * (rank - 1), [0] * (rank - 1)
+    pair, last, one, three = ([*ones, 2], [*zeros, 1], [*ones, 1], [*ones, 3]) if rank else ([], [], [], [])
+    table = param(0, I16, -9, 9, pair) + param(1, I16, 1, 9, pair) + param(2, BOOL, 0, 1, pair) + param(3, BOOL, 0, 1, pair)
+    table += move(PERMUTE, 0, range(rank)[::-1]) + move(FLIP, 0, last) + move(RESHAPE, 0, pair) + move(EXPAND, 0, pair)
+    table += move(PAD, 0, three, last) + move(SHRINK, 0, one, last) + node(CAST, {1: 0, 4: I32})
+    table += sum((apply(op, 0, 1) for op in (ADD, MUL, MAX, IDIV, MOD, CMPLT, CMPNE)), []) + apply(AND, 2, 3) + apply(OR, 2, 3)
+    table += apply(WHERE, 2, 0, 1) + reduce_node(0, 0, last) + reduce_node(0, 1, last) + node(LOAD, {1: 0, 6: 9})
+    sources = [several[:2 if rank else 1] for several in (X, Y, P, Q)]
+    return completes(f'every operation of rank {rank}', table, sum(sources, []), *sources, *results)
+
+
+RANKS = [
+    # "Rank is 0 to 4."
+    at_rank(0, *[[-7]] * 7, [-5], [-14], [2], [-4], [1], [1], [1], [0], [1], [2], [-7], [-7], [-7]),
+    *(at_rank(rank, X, [5, -7], X, X, [GAP, -7, 5], [5], X, [-5, 8], [-14, 15], [2, 5], [-4, 1], [1, 2], [1, 0], [1, 1], [0, 1], [1, 1],
+              [2, 5], [-2], [5], X) for rank in range(1, 5)),
+    # "each axis equal or 1" for the sides of each operation: two rows, a row and a number, a number and a row
+    completes('rows and numbers', param(0, I16, -9, 9, (4,)) + param(1, I16, 1, 9, (4,)) + const(I16, 5)
+              + sum((apply(op, *sides) for op in (ADD, MUL, MAX, IDIV, MOD, CMPLT, CMPNE) for sides in ((0, 1), (0, 2), (2, 1))), []),
+              [-7, 5, 9, GAP, 2, 5, 8, 3], [-7, 5, 9, GAP], [2, 5, 8, 3], [5], [-5, 10, 17, GAP], [-2, 10, 14, GAP], [7, 10, 13, 8],
+              [-14, 25, 72, GAP], [-35, 25, 45, GAP], [10, 25, 40, 15], [2, 5, 9, GAP], [5, 5, 9, GAP], [5, 5, 8, 5],
+              [-4, 1, 1, GAP], [-2, 1, 1, GAP], [2, 1, 0, 1], [1, 0, 1, GAP], [3, 0, 4, GAP], [1, 0, 5, 2],
+              [1, 0, 0, GAP], [1, 0, 0, GAP], [0, 0, 1, 0], [1, 0, 1, GAP], [1, 0, 1, GAP], [1, 0, 1, 1]),
+    completes('rows and numbers of bools', param(0, BOOL, 0, 1, (4,)) + param(1, BOOL, 0, 1, (4,)) + const(BOOL, 1) + const(BOOL, 0)
+              + sum((apply(op, *sides) for op, one in ((AND, 2), (OR, 3), (CMPNE, 2)) for sides in ((0, 1), (0, one), (one, 1))), []),
+              [0, 1, 1, GAP, 0, 0, 1, 1], [0, 1, 1, GAP], [0, 0, 1, 1], [1], [0], [0, 0, 1, GAP], [0, 1, 1, GAP], [0, 0, 1, 1],
+              [0, 1, 1, GAP], [0, 1, 1, GAP], [0, 0, 1, 1], [0, 1, 0, GAP], [1, 0, 0, GAP], [1, 1, 0, 0]),
+    completes('rows and numbers of WHERE', param(0, BOOL, 0, 1, (4,)) + param(1, I16, 0, 9, (4,)) + param(2, I16, 0, 9, (4,)) + const(I16, 9)
+              + const(I16, 8) + const(BOOL, 1) + const(BOOL, 0) + sum((apply(WHERE, *three) for three in (
+                  (0, 1, 2), (0, 1, 3), (0, 3, 2), (0, 3, 4), (5, 1, 2), (5, 3, 2), (6, 1, 2), (6, 1, 3))), []),
+              [1, 0, GAP, 1, 1, 2, 3, 4, 5, 6, 7, GAP], [1, 0, GAP, 1], [1, 2, 3, 4], [5, 6, 7, GAP], [9], [8], [1], [0],
+              [1, 6, GAP, 4], [1, 9, GAP, 4], [9, 6, GAP, 9], [9, 8, GAP, 9], [1, 2, 3, 4], [9, 9, 9, 9], [5, 6, 7, GAP], [9, 9, 9, 9]),
+    # "The answer carries the number of gaps in the output node.": more than a byte can count
+    completes('300 gaps', param(0, I16, 0, 9, (300,)), [GAP] * 300, [GAP] * 300),
+]
+
 # -------------------------------------------------------------------- refusals
 
 PAIR = param(0, I16, -3, 5, (2,))
@@ -161,12 +262,14 @@ REFUSALS = [
     refused('rooms for the output alone', 14, 0, PAIR + move(FLIP, 0, (1,)), [1, 1], rooms=(2, 2)),
     refused('flags room one short of all nodes', 14, 0, PAIR + move(FLIP, 0, (1,)), [1, 1], rooms=(9, 3)),
     # 15 "flag neither 0 nor 1", 16 "known number outside limits", both at their position among all inputs
-    *(refused(f'flag {flag}', 15, 1, PAIR, [1, (1, flag)]) for flag in (2, 3, 127, 128, 129, 254, 255)),
+    *(refused(f'flag {flag}', 15, 1, PAIR, [1, (1, flag)]) for flag in (2, 3, 4, 7, 8, 16, 32, 64, 127, 128, 129, 254, 255)),
     *(refused(f'number {value}', 16, 1, PAIR, [1, value]) for value in (-4, 6, 2 ** 32, -2 ** 32, -BIG, BIG - 1)),
     completes('numbers at their limits', PAIR, [-3, 5], [-3, 5]),
     refused('flag 2 in the second PARAM', 15, 2, LATER, [1, 1, (3, 2), 3]),
     refused('number within the limits of another PARAM', 16, 3, LATER, [1, 1, 3, 2]),
     refused('number within its type', 16, 2, LATER, [1, 1, 10, 3]),
+    refused('flag 2 at position 299', 15, 299, param(0, I16, 0, 9, (300,)), [1] * 299 + [(1, 2)], rooms=(300, 300)),
+    refused('number 10 at position 299', 16, 299, param(0, I16, 0, 9, (300,)), [1] * 299 + [10], rooms=(300, 300)),
     # "15 and 16 at the first bad position, 15 before 16"
     refused('flag and number at one position', 15, 0, PAIR, [(6, 2), 1]),
     refused('number before flag', 16, 0, PAIR, [6, (1, 2)]),
@@ -190,4 +293,4 @@ REFUSALS = [
     refused('no words', 1, 0, [], []),
 ]
 
-EXAMPLES = [*NUMBERS, *GAPS, *MOVEMENTS, *REFUSALS]
+EXAMPLES = [*NUMBERS, *GAPS, *MOVEMENTS, *FOUR_AXES, *RANKS, *REFUSALS]

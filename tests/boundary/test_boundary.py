@@ -12,12 +12,12 @@ from random import Random
 
 sys.dont_write_bytecode = True
 HERE = os.path.dirname(os.path.abspath(__file__))
-sys.path[:0] = [HERE, os.path.join(os.path.dirname(HERE), 'model')]
+sys.path[:0] = [HERE, *(os.path.join(os.path.dirname(HERE), part) for part in ('model', 'tools'))]
 
 import cases  # noqa: E402
 import model  # noqa: E402
+from counting import Cases  # noqa: E402
 from library import Library, declared, exported  # noqa: E402
-from tally import Tally  # noqa: E402
 
 # The ends of packed numbers of one to five bytes.
 NUMBER_ENDS = sorted({128 ** k + d for k in range(6) for d in (-1, 0, 1) if 0 <= 128 ** k + d < 2 ** 35})
@@ -91,28 +91,33 @@ def fixed_bytes():
 
 
 def unpack_inputs(rng, count):
-    """(bytes, room): fixed bytes with each room; then random plans, three of four damaged."""
+    """Cases, each some (bytes, room): fixed bytes with each room; then random plans, three of four damaged."""
     for data in fixed_bytes():
-        for room in (needed(data), needed(data) - 1, needed(data) + 5, 0):
-            yield data, room
-    yield from cases.ORDERED_BYTES
+        yield [(data, room) for room in (needed(data), needed(data) - 1, needed(data) + 5, 0)]
+    yield from ([pair] for pair in cases.ORDERED_BYTES)
     for turn in range(count):
         nodes = rng.choice((1, 1, 2, 3, 5, 8, 13)) if turn % 100 else rng.choice((127, 128, 255, 256))
         data = cases.pack(random_table(rng, nodes))
         data = damaged(rng, data) if turn % 4 else data
         room = needed(data)
-        yield data, rng.choice((room, room, room, room, room - 1, room + 1, room + rng.randint(2, 60), rng.randrange(room), 0))
+        yield [(data, rng.choice((room, room, room, room, room - 1, room + 1, room + rng.randint(2, 60), rng.randrange(room), 0)))]
+
+
+def unpacked(tally, library, data, room):
+    """An unpack against the model, where a length is 0 with NULL too; the number that it answers."""
+    wanted = pattern(room)
+    answer = model.unpack(data, wanted)
+    for null in ((False, True) if room == 0 or not data else (False,)):
+        got = library.unpack(data, pattern(room), null)
+        tally.same(('unpack', data.hex(), room, null), got, (tuple(answer), wanted, True))
+    return answer.number
 
 
 def test_unpack(tally, library, rng, count):
     met = collections.Counter()
-    for data, room in unpack_inputs(rng, count):
-        wanted = pattern(room)
-        answer = model.unpack(data, wanted)
-        met[answer.number] += 1
-        for null in ((False, True) if room == 0 or not data else (False,)):
-            got = library.unpack(data, pattern(room), null)
-            tally.same(('unpack', data.hex(), room, null), got, (tuple(answer), wanted, True))
+    for inputs in unpack_inputs(rng, count):
+        with tally.case(('unpack', inputs[0][0].hex())):
+            met.update(unpacked(tally, library, data, room) for data, room in inputs)
     print('unpack answers met:', ', '.join('%d: %d times' % item for item in sorted(met.items())))
     tally.same('unpack answers met', sorted(met), [0, 14, 20, 21, 22, 23, 24])
 
@@ -125,12 +130,12 @@ WORD_SWEEP = sorted({*cases.EDGES, *range(-6, 7), *(s * 2 ** k + d for s in (-1,
 
 
 def swept():
-    """(table, room): a valid node of each operation after its sources, each of its words set to each value of the sweep."""
+    """Cases, each some (table, room): a valid node of each operation after its sources, one of its words set to each value of the sweep."""
     for op in range(model.LOAD + 1):
         table = cases.draft(op, cases.DRAFTS[op][0])
+        room = 8 * (len(table) // model.NODE_WORDS)
         for word in range(len(table) - model.NODE_WORDS, len(table)):
-            for value in WORD_SWEEP:
-                yield table[:word] + [value] + table[word + 1:], 8 * (len(table) // model.NODE_WORDS)
+            yield [(table[:word] + [value] + table[word + 1:], room) for value in WORD_SWEEP]
 
 
 def tables_of(seed, scale):
@@ -155,24 +160,31 @@ def changed(rng, table):
 
 
 def check_inputs(rng, scale):
-    """(table, room): the sweep; then each table as it is, and changed, with a room that fits, falls short or is larger."""
+    """Cases, each some (table, room): the sweep; then each table as it is, and changed, with a room that fits, and one that falls short or is larger."""
     yield from swept()
     for table in tables_of(rng.randrange(2 ** 32), scale):
+        inputs = []
         for plan in (table, changed(rng, table)):
             words = 8 * (len(plan) // model.NODE_WORDS)
-            yield plan, words
-            yield plan, rng.choice((words + rng.randint(1, 20), max(words - 1, 0), rng.randint(0, words), 0))
+            inputs += [(plan, words), (plan, rng.choice((words + rng.randint(1, 20), max(words - 1, 0), rng.randint(0, words), 0)))]
+        yield inputs
+
+
+def checked(tally, library, plan, room):
+    """A check against the model, where a length is 0 with NULL too; the number that it answers."""
+    wanted = pattern(room)
+    answer = model.check(plan, wanted)
+    for null in ((False, True) if room == 0 or not plan else (False,)):
+        got = library.check(plan, pattern(room), null)
+        tally.same(('check', plan, room, null), got, (tuple(answer), wanted, True))
+    return answer.number
 
 
 def test_check(tally, library, rng, count):
     met = collections.Counter()
-    for plan, room in check_inputs(rng, count / 4000):
-        wanted = pattern(room)
-        answer = model.check(plan, wanted)
-        met[answer.number] += 1
-        for null in ((False, True) if room == 0 or not plan else (False,)):
-            got = library.check(plan, pattern(room), null)
-            tally.same(('check', plan, room, null), got, (tuple(answer), wanted, True))
+    for inputs in check_inputs(rng, count / 4000):
+        with tally.case(('check', inputs[0][0])):
+            met.update(checked(tally, library, plan, room) for plan, room in inputs)
     print('check answers met:', ', '.join('%d: %d times' % item for item in sorted(met.items())))
     tally.same('check answers met', sorted(met), [*range(13), 14])
 
@@ -180,23 +192,27 @@ def test_check(tally, library, rng, count):
 # ---------------------------------------------------------------- unpack and check
 
 def packed_inputs(rng, count):
-    yield from (data for data, _ in unpack_inputs(rng, count // 2))
+    """Cases, each some bytes: those of an unpack; then each table, or another where it cannot be packed, as it is and damaged."""
+    yield from ([data for data, _ in inputs] for inputs in unpack_inputs(rng, count // 2))
     for table in tables_of(rng.randrange(2 ** 32), count / 8000):
-        if table and len(table) % model.NODE_WORDS == 0 and all(0 <= op < 21 for op in table[::model.NODE_WORDS]):
-            data = cases.pack(table)
-            yield data
-            yield damaged(rng, data)
+        can = table and len(table) % model.NODE_WORDS == 0 and all(0 <= op < 21 for op in table[::model.NODE_WORDS])
+        data = cases.pack(table if can else random_table(rng, rng.randint(1, 5)))
+        yield [data, damaged(rng, data)]
+
+
+def both(tally, library, data):
+    """Both in one call against the model, where there are no bytes with NULL too; the number that it answers."""
+    wanted = model.unpack_check(data)
+    for null in ((False, True) if not data else (False,)):
+        tally.same(('unpack_check', data.hex(), null), library.unpack_check(data, null), (wanted, True))
+    return wanted // 65536
 
 
 def test_unpack_check(tally, library, rng, count):
     met = collections.Counter()
-    for data in packed_inputs(rng, count):
-        if len(data) > library.bytes.size:
-            continue
-        wanted = model.unpack_check(data)
-        met[wanted // 65536] += 1
-        for null in ((False, True) if not data else (False,)):
-            tally.same(('unpack_check', data.hex(), null), library.unpack_check(data, null), (wanted, True))
+    for inputs in packed_inputs(rng, count):
+        with tally.case(('unpack_check', inputs[0].hex())):
+            met.update(both(tally, library, data) for data in inputs)
     print('unpack_check answers met:', ', '.join('%d: %d times' % item for item in sorted(met.items())))
     tally.same('unpack_check answers met', sorted(met), [0, 4, 5, 6, 7, 8, 9, 10, 11, 12, 20, 21, 22, 23, 24])
 
@@ -210,12 +226,12 @@ def main():
     faulthandler.enable()
     count = int(sys.argv[1]) if len(sys.argv) > 1 else 20000
     rng = Random(int(sys.argv[2]) if len(sys.argv) > 2 else 7)
-    tally, library = Tally(), Library()
+    tally, library = Cases(), Library()
     tally.same('the calls that the header declares', declared(), TESTED)
     tally.same('the calls that the library exports', exported(), TESTED)
     for test in TESTS.values():
         test(tally, library, rng, count)
-    tally.finish()
+    tally.finish(library.made)
 
 
 if __name__ == '__main__':

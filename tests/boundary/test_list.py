@@ -10,7 +10,7 @@ import subprocess
 import sys
 from random import Random
 
-from test_boundary import Tally, cases, damaged, fixed_bytes, model
+from test_boundary import Cases, cases, damaged, fixed_bytes, model
 
 LIST = os.path.join(os.path.dirname(os.path.abspath(__file__)), '..', '..', 'build', 'list')
 LIMIT = 12288
@@ -61,7 +61,7 @@ def inputs(rng, count):
 def main():
     count = int(sys.argv[1]) if len(sys.argv) > 1 else 600
     rng = Random(int(sys.argv[2]) if len(sys.argv) > 2 else 7)
-    tally, met, shapes = Tally(), collections.Counter(), collections.Counter()
+    tally, met, shapes = Cases(), collections.Counter(), collections.Counter()
     tally.same('the example of 01', written(EXAMPLE), (0, b'', EXAMPLE_TEXT))
     tally.same('the longest plan', len(longest_plan()), 11778)
     for data in inputs(rng, count):

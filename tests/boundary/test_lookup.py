@@ -8,11 +8,11 @@ import collections
 import faulthandler
 import sys
 from array import array
-from itertools import accumulate
+from itertools import accumulate, chain
 from math import prod
 from random import Random
 
-from test_boundary import Library, Tally, cases, changed, model, tables_of
+from test_boundary import Cases, Library, changed, model, tables_of
 
 import lookup_examples
 import run_cases
@@ -61,8 +61,9 @@ def asked(rng, records, most):
 
 def test_examples(compared):
     for example in lookup_examples.EXAMPLES:
-        compared.lookup(example.name, example.table, example.node, example.element, example.reply)
-        compared.lookup(example.name + ', by the model', example.table, example.node, example.element)
+        with compared.tally.case(example.name):
+            compared.lookup(example.name, example.table, example.node, example.element, example.reply)
+            compared.lookup(example.name + ', by the model', example.table, example.node, example.element)
 
 
 def test_cells(compared, run, records, place, reply, cells):
@@ -86,9 +87,9 @@ def test_run(compared, rng, run, most):
     for place in asked(rng, records, most):
         reply = compared.lookup(run.note, run.table, *place)
         test_cells(compared, run, records, place, reply, cells)
-        chain = list(steps(run.table, place[0]))
-        compared.met.operations.update(chain)
-        compared.met.longest = max(compared.met.longest, len(chain))
+        passed = list(steps(run.table, place[0]))
+        compared.met.operations.update(passed)
+        compared.met.longest = max(compared.met.longest, len(passed))
     node = rng.randrange(len(records))
     past = prod(records[node].extents)
     for place in ((len(records), 0), (node, past), (node, past + rng.randrange(9)), (rng.choice(NOT_THERE), 0), (node, max(past, rng.choice(NOT_THERE)))):
@@ -96,8 +97,8 @@ def test_run(compared, rng, run, most):
 
 
 def test_plans(compared, rng, count):
-    for several in (run_cases.fixed_runs(rng), run_cases.chain_runs(rng, count // 100), run_cases.random_runs(rng, count // 5)):
-        for run in several:
+    for run in chain(run_cases.fixed_runs(rng), run_cases.chain_runs(rng, count // 100), run_cases.random_runs(rng, count // 5)):
+        with compared.tally.case(run.note):
             test_run(compared, rng, run, 12)
 
 
@@ -106,16 +107,18 @@ def test_longest(compared):
     table = param(0, 2, 0, 9, (3,))
     for source in range(MOST_NODES - 1):
         table += move(FLIP, source, (1,))
-    for element in range(3):
-        compared.lookup('255 FLIPs', table, MOST_NODES - 1, element, (0, 0, 1, 0, 2 - element))
+    with compared.tally.case('255 FLIPs'):
+        for element in range(3):
+            compared.lookup('255 FLIPs', table, MOST_NODES - 1, element, (0, 0, 1, 0, 2 - element))
     compared.lookup('a node too many', table + const(0, 1), 0, 0, (1, 0, 0, 0, 0))
 
 
 def test_checked(compared, rng, scale):
     """Tables that the check refuses, and ones at its limits."""
     for table in tables_of(rng.randrange(2 ** 32), scale):
-        for plan in (table, changed(rng, table)):
-            compared.lookup('check by way of a lookup', plan, rng.choice((0, 1, 300)), rng.choice((0, 5, 2 ** 64 - 1)))
+        with compared.tally.case(('check by way of a lookup', table)):
+            for plan in (table, changed(rng, table)):
+                compared.lookup('check by way of a lookup', plan, rng.choice((0, 1, 300)), rng.choice((0, 5, 2 ** 64 - 1)))
 
 
 def test_met(tally, met, count):
@@ -133,14 +136,14 @@ def main():
     faulthandler.enable()
     count = int(sys.argv[1]) if len(sys.argv) > 1 else 10000
     rng = Random(int(sys.argv[2]) if len(sys.argv) > 2 else 11)
-    tally = Tally()
+    tally = Cases()
     compared = Compared(tally, Library())
     test_examples(compared)
     test_plans(compared, rng, count)
     test_longest(compared)
     test_checked(compared, rng, count / 10000)
     test_met(tally, compared.met, count)
-    tally.finish()
+    tally.finish(compared.library.made)
 
 
 if __name__ == '__main__':

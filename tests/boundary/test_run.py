@@ -8,10 +8,11 @@ import collections
 import faulthandler
 import sys
 from array import array
+from itertools import chain
 from math import prod
 from random import Random
 
-from test_boundary import Library, Tally, cases, changed, model, pattern, tables_of
+from test_boundary import Cases, Library, cases, changed, model, pattern, tables_of
 
 import run_cases
 import run_examples
@@ -27,7 +28,7 @@ class Met:
 
     def __init__(self):
         self.answers, self.cells, self.under_gaps = collections.Counter(), collections.Counter(), set()
-        self.plans, self.again, self.deepest, self.most_nodes, self.longest_group, self.widest_group = 0, 0, 0, 0, 0, 0
+        self.plans, self.again, self.deepest, self.most_nodes, self.in_a_row, self.widest = 0, 0, 0, 0, 0, 0
 
     def completed(self, run, records):
         self.plans += 1
@@ -35,9 +36,9 @@ class Met:
         self.under_gaps.update(value for value, flag in zip(run.values, run.flags) if flag == 0)
         self.deepest = max(self.deepest, run_cases.depth(run.table))
         self.most_nodes = max(self.most_nodes, len(records))
-        for length, size in run_cases.groups(run.table, records):
-            self.longest_group = max(self.longest_group, length)
-            self.widest_group = max(self.widest_group, size if length > 1 else 0)
+        for length, size in run_cases.computed_in_a_row(run.table, records):
+            self.in_a_row = max(self.in_a_row, length)
+            self.widest = max(self.widest, size if length > 32 else 0)
 
 
 def flag_pattern(room):
@@ -97,8 +98,9 @@ def test_examples(compared):
             flags[:len(example.elements)] = [int(element is not None) for element in example.elements]
         wanted = example.answer, array('q', values), array('B', flags)
         inputs = example.table, example.values, example.flags, example.rooms
-        compared.run(example.name, *inputs, wanted)
-        compared.run(example.name + ', by the model', *inputs)
+        with compared.tally.case(example.name):
+            compared.run(example.name, *inputs, wanted)
+            compared.run(example.name + ', by the model', *inputs)
 
 
 # ------------------------------------------- accepted plans, and refusals of them
@@ -161,12 +163,11 @@ def test_run(compared, rng, run, turn):
 
 
 def test_accepted(compared, rng, count):
-    runs = [run_cases.fixed_runs(rng), run_cases.chain_runs(rng, count // 50), run_cases.grouped_runs(rng, count // 200), run_cases.random_runs(rng, count)]
-    turn = 0
-    for several in runs:
-        for run in several:
+    runs = [run_cases.fixed_runs(rng), run_cases.chain_runs(rng, count // 50), run_cases.computed_runs(rng, max(16, count // 200)),
+            run_cases.random_runs(rng, count)]
+    for turn, run in enumerate(chain(*runs)):
+        with compared.tally.case(run.note):
             test_run(compared, rng, run, turn)
-            turn += 1
 
 
 # ------------------------------------------------------ refusals of the check
@@ -176,13 +177,15 @@ def test_checked(compared, rng, scale):
     for case in (*cases.run_inputs(int(400 * scale), rng.randrange(2 ** 32)), *cases.buffer_cases(int(200 * scale), rng.randrange(2 ** 32))):
         if case.call == 'run':
             *inputs, room, flag_room = case.args
-            compared.run(case.note, *inputs, (room, flag_room))
+            with compared.tally.case(case.note):
+                compared.run(case.note, *inputs, (room, flag_room))
     for table in tables_of(rng.randrange(2 ** 32), scale):
-        for plan in (table, changed(rng, table)):
-            number, rest = model.verdict(plan)
-            small = number or sum(prod(record.extents) for record in rest) <= 2000
-            inputs = run_cases.inputs_of(rng, plan, 0.2) if number == 0 and small else ([], [])
-            compared.run('check by way of a run', plan, *inputs, (rng.choice((0, 300)), 300))
+        with compared.tally.case(('check by way of a run', table)):
+            for plan in (table, changed(rng, table)):
+                number, rest = model.verdict(plan)
+                small = number or sum(prod(record.extents) for record in rest) <= 2000
+                inputs = run_cases.inputs_of(rng, plan, 0.2) if number == 0 and small else ([], [])
+                compared.run('check by way of a run', plan, *inputs, (rng.choice((0, 300)), 300))
 
 
 # ------------------------------------------------------------------ the limits
@@ -206,57 +209,61 @@ def with_item(items, at, item):
     return items
 
 
-def test_large(compared):
+def test_large_run(compared, run):
     """Exact rooms; longer ones, with other numbers under the gaps; each length and room by one; bad inputs at the last position."""
+    wanted = array('q'), array('B')
+    for values, flags in run.nodes:
+        wanted[0].extend(values)
+        wanted[1].extend(flags)
+    total, last, gaps = len(wanted[0]), len(run.values) - 1, run.nodes[-1][1].count(0)
+    garbage = array('q', (value if flag else BIG - 1 - k for k, (value, flag) in enumerate(zip(run.values, run.flags))))
+    large_call(compared, 'exact', run, run.values, run.flags, (total, total), (0, 0, gaps), wanted)
+    large_call(compared, 'longer', run, garbage, run.flags, (total + 3, total + 5), (0, 0, gaps), wanted)
+    large_call(compared, 'values one short', run, run.values[:-1], run.flags, (total, total), (13, 0, 0))
+    large_call(compared, 'flags one long', run, run.values, run.flags + array('B', [1]), (total, total), (13, 0, 0))
+    large_call(compared, 'values room one short', run, run.values, run.flags, (total - 1, total), (14, 0, 0))
+    large_call(compared, 'flags room one short', run, run.values, run.flags, (total, total - 1), (14, 0, 0))
+    known = with_item(run.flags, last, 1)
+    large_call(compared, 'last flag', run, run.values, with_item(run.flags, last, 2), (total, total), (15, last, 0))
+    large_call(compared, 'last number', run, with_item(run.values, last, 2 ** 31), known, (total, total), (16, last, 0))
+    if total == model.MOST_PLAN_ELEMENTS and len(run.table) < 17 * model.MOST_NODES:
+        over = run._replace(table=run.table + const(0, 1))
+        large_call(compared, 'one element more', over, run.values, run.flags, (total + 1, total + 1), (12, 0, 0))
+
+
+def test_large(compared):
     for run in run_large.large_runs():
-        wanted = array('q'), array('B')
-        for values, flags in run.nodes:
-            wanted[0].extend(values)
-            wanted[1].extend(flags)
-        total, last, gaps = len(wanted[0]), len(run.values) - 1, run.nodes[-1][1].count(0)
-        garbage = array('q', (value if flag else BIG - 1 - k for k, (value, flag) in enumerate(zip(run.values, run.flags))))
-        large_call(compared, 'exact', run, run.values, run.flags, (total, total), (0, 0, gaps), wanted)
-        large_call(compared, 'longer', run, garbage, run.flags, (total + 3, total + 5), (0, 0, gaps), wanted)
-        large_call(compared, 'values one short', run, run.values[:-1], run.flags, (total, total), (13, 0, 0))
-        large_call(compared, 'flags one long', run, run.values, run.flags + array('B', [1]), (total, total), (13, 0, 0))
-        large_call(compared, 'values room one short', run, run.values, run.flags, (total - 1, total), (14, 0, 0))
-        large_call(compared, 'flags room one short', run, run.values, run.flags, (total, total - 1), (14, 0, 0))
-        known = with_item(run.flags, last, 1)
-        large_call(compared, 'last flag', run, run.values, with_item(run.flags, last, 2), (total, total), (15, last, 0))
-        large_call(compared, 'last number', run, with_item(run.values, last, 2 ** 31), known, (total, total), (16, last, 0))
-        if total == model.MOST_PLAN_ELEMENTS and len(run.table) < 17 * model.MOST_NODES:
-            over = run._replace(table=run.table + const(0, 1))
-            large_call(compared, 'one element more', over, run.values, run.flags, (total + 1, total + 1), (12, 0, 0))
+        with compared.tally.case(run.note):
+            test_large_run(compared, run)
 
 
 # --------------------------------------------------------------------- totals
 
 def test_met(tally, met, count):
     print('run answers met:', ', '.join('%d: %d times' % item for item in sorted(met.answers.items())))
-    print('%d plans completed, %d of them again with other numbers under gaps; longest chain %d; most nodes %d; longest group %d, widest %d cells'
-          % (met.plans, met.again, met.deepest, met.most_nodes, met.longest_group, met.widest_group))
+    print('%d plans completed, %d of them again with other numbers under gaps; longest chain %d; most nodes %d; most binary operations and WHEREs in a row %d'
+          % (met.plans, met.again, met.deepest, met.most_nodes, met.in_a_row))
     print('each operation in', ', '.join('%d: %d' % (op, sum(n for (o, _), n in met.cells.items() if o == op)) for op in range(21)), 'nodes')
     tally.same('plans enough', met.plans >= count, True)
     tally.same('run answers met', sorted(met.answers), [*range(17)])
     tally.same('operations and ranks met', sorted(OPERATIONS_AND_RANKS - set(met.cells)), [])
     tally.same('the least and the greatest word under gaps', sorted(EXTREMES - met.under_gaps), [])
     tally.same('some chain is long', met.deepest >= 20, True)
-    tally.same('some group is longer than what is run at once', met.longest_group > 3 * 8, True)
-    tally.same('some group is over several tiles', met.widest_group > 2 * 16384, True)
+    tally.same('over 32 binary operations and WHEREs in a row, on rows of over two parts', (met.in_a_row > 32, met.widest > 2 * 1024), (True, True))
 
 
 def main():
     faulthandler.enable()
     count = int(sys.argv[1]) if len(sys.argv) > 1 else 10000
     rng = Random(int(sys.argv[2]) if len(sys.argv) > 2 else 7)
-    tally = Tally()
+    tally = Cases()
     compared = Compared(tally, Library())
     test_examples(compared)
     test_accepted(compared, rng, count)
     test_checked(compared, rng, count / 10000)
     test_large(compared)
     test_met(tally, compared.met, count)
-    tally.finish()
+    tally.finish(compared.library.made)
 
 
 if __name__ == '__main__':

@@ -1,7 +1,11 @@
-/* Calls every export on random and mutated inputs. Each buffer of a call lies against a page that cannot be touched, before it or after it in turn, so that
- * a read or a write past either end stops the program, which then names the seed and the turn. A refusal must leave every buffer as it was, an
- * accepted call every place that it does not write; what it writes must keep what the header says.
- * usage: fuzz SECONDS [SEED]     last line: 'N passed, 0 failed' */
+/* Calls every export on random and mutated inputs. Each buffer of a call lies against a page that cannot be touched, before
+ * it or after it in turn, so that a read or a write past either end stops the program, which then names the seed, the turn
+ * and the call. A refusal must leave every buffer as it was, an accepted call every place that it does not write; what it
+ * writes must keep what the header says.
+ * A case is a kind of input to one export, an answer of one export, or an operation in a run: it has to be met, and all that
+ * is asked of it has to hold. So the number of cases is the same however long the program runs: it runs for the seconds, and
+ * for LEAST_TURNS turns if those take longer.
+ * usage: fuzz SECONDS [SEED]     last line: 'N passed, 0 failed', N the number of cases; the line before it: the calls */
 #define _DEFAULT_SOURCE
 #include "lupetzarin.h"
 
@@ -16,7 +20,102 @@
 enum { NODE = 17, RECORD = 8, MOST_NODES = 256, MOST_WORDS = NODE * (MOST_NODES + 2), MOST_CELLS = 1 << 15, MOST_BYTES = 13000 };
 enum { PARAM = 1, PERMUTE = 2, PAD = 6, SHRINK = 7, REDUCE = 19, LOAD = 20, OPERATIONS = 21 };
 
-static unsigned long passed, failed, turn, seed, completed, refusals[25];
+static unsigned long turn, seed, completed;
+
+/* ---- cases */
+
+enum { LEAST_TURNS = 20000, ANSWERS = 25, MOST_TOLD = 20 };
+enum { UNPACK, CHECK, UNPACK_CHECK, RUN, LOOKUP, EXPORTS };
+static const char *const exports[EXPORTS] = {"lup_unpack", "lup_check", "lup_unpack_check", "lup_run", "lup_lookup"};
+
+/* What is given to which export. */
+enum {
+    PACKED, PACKED_NO_ROOM, SPOILT, CODE_PACKED, CODE_SPOILT, GROWN, UNPACKED, PLAN, PLAN_NO_ROOM, WORDS, NO_NODES,
+    GOOD, FEW_VALUES, FEW_FLAGS, NO_VALUE_ROOM, NO_FLAG_ROOM, BAD_FLAG, BAD_NUMBER, RUN_WORDS,
+    FOLLOWED, NOT_FOLLOWED, NO_NODE, NO_ELEMENT, LOOKUP_WORDS, KINDS
+};
+typedef struct {
+    int export;
+    const char *given;
+    unsigned long calls, wrong;
+} kind;
+static kind kinds[KINDS] = {
+    [PACKED] = {UNPACK, "a packed plan, room for it", 0, 0},
+    [PACKED_NO_ROOM] = {UNPACK, "a packed plan, too little room", 0, 0},
+    [SPOILT] = {UNPACK, "a packed plan with bytes changed or taken out", 0, 0},
+    [CODE_PACKED] = {UNPACK_CHECK, "a packed plan", 0, 0},
+    [CODE_SPOILT] = {UNPACK_CHECK, "a packed plan with bytes changed or taken out", 0, 0},
+    [GROWN] = {CHECK, "an accepted plan with one node more", 0, 0},
+    [UNPACKED] = {CHECK, "a plan that was unpacked", 0, 0},
+    [PLAN] = {CHECK, "an accepted plan, room for its words", 0, 0},
+    [PLAN_NO_ROOM] = {CHECK, "an accepted plan, too little room", 0, 0},
+    [WORDS] = {CHECK, "a plan with words changed", 0, 0},
+    [NO_NODES] = {CHECK, "a length that is not 1 to 256 nodes", 0, 0},
+    [GOOD] = {RUN, "an accepted plan with good input", 0, 0},
+    [FEW_VALUES] = {RUN, "a value too few", 0, 0},
+    [FEW_FLAGS] = {RUN, "a flag too few", 0, 0},
+    [NO_VALUE_ROOM] = {RUN, "too little room for values", 0, 0},
+    [NO_FLAG_ROOM] = {RUN, "too little room for flags", 0, 0},
+    [BAD_FLAG] = {RUN, "a flag neither 0 nor 1", 0, 0},
+    [BAD_NUMBER] = {RUN, "a number outside its limits", 0, 0},
+    [RUN_WORDS] = {RUN, "a plan with words changed, any input", 0, 0},
+    [FOLLOWED] = {LOOKUP, "an element of a node that is followed", 0, 0},
+    [NOT_FOLLOWED] = {LOOKUP, "an element of a node that is not followed", 0, 0},
+    [NO_NODE] = {LOOKUP, "a node that is not there", 0, 0},
+    [NO_ELEMENT] = {LOOKUP, "an element that is not there", 0, 0},
+    [LOOKUP_WORDS] = {LOOKUP, "a plan with words changed, any node and element", 0, 0},
+};
+
+/* The answers of each export that come often enough to be asked for, as bits; and how often each came. */
+#define BITS(from, to) ((2u << (to)) - (1u << (from)))
+static const uint32_t wanted[EXPORTS] = {
+    [UNPACK] = 1u << 0 | 1u << 14 | BITS(20, 24),
+    [CHECK] = BITS(0, 8) | BITS(10, 11) | 1u << 14,
+    [UNPACK_CHECK] = 1u << 0 | 1u << 4 | 1u << 5 | 1u << 7 | 1u << 8 | 1u << 11 | BITS(20, 24),
+    [RUN] = BITS(0, 5) | 1u << 7 | 1u << 8 | 1u << 11 | BITS(13, 16),
+    [LOOKUP] = BITS(0, 5) | 1u << 7 | 1u << 8 | 1u << 11 | 1u << 17,
+};
+static unsigned long answers[EXPORTS][ANSWERS], operations[OPERATIONS], gaps_found;
+
+/* The call under way, and what it answered. */
+static int under_way;
+static uint64_t said[5];
+
+static void given(int which) {
+    under_way = which;
+    kinds[which].calls++;
+}
+
+static void heard(uint64_t number, uint64_t place, uint64_t third, uint64_t fourth, uint64_t fifth) {
+    const uint64_t five[5] = {number, place, third, fourth, fifth};
+    memcpy(said, five, sizeof said);
+    if (number < ANSWERS) answers[kinds[under_way].export][number]++;
+}
+
+static lup_answer answered(lup_answer a) {
+    heard(a.number, a.place, a.count, 0, 0);
+    return a;
+}
+
+static lup_found found(lup_found f) {
+    heard(f.number, f.place, f.found, f.node, f.element);
+    return f;
+}
+
+static void name_call(void) {
+    printf("seed %lu, turn %lu: %s on %s: ", seed, turn, exports[kinds[under_way].export], kinds[under_way].given);
+}
+
+static void expect(int holds, const char *what) {
+    static unsigned long told;
+    if (holds) return;
+    kinds[under_way].wrong++;
+    if (++told > MOST_TOLD) return;
+    name_call();
+    printf("does not hold: %s; it answered", what);
+    for (int k = 0; k < 5; k++) printf(" %llu", (unsigned long long)said[k]);
+    printf("\n");
+}
 
 /* ---- numbers by chance (splitmix64) */
 
@@ -37,14 +136,6 @@ static int64_t edge(void) {
     static const int64_t edges[] = {0, 1, -1, 2, 3, 4, 5, 15, 16, 20, 21, 127, 128, 255, 256, 32767, 32768, -32768, -32769, 1048576, 1048577, 4194304, 2147483647, 2147483648,
                                     -2147483648, -2147483649, (int64_t)1 << 32, (int64_t)1 << 34, INT64_MAX, INT64_MIN, INT64_MAX - 1, INT64_MIN + 1};
     return one_in(4) ? (int64_t)any() : edges[below(sizeof edges / sizeof *edges)];
-}
-
-static void expect(int holds, const char *what) {
-    if (holds) {
-        passed++;
-    } else if (++failed <= 20) {
-        printf("seed %lu, turn %lu: %s\n", seed, turn, what);
-    }
 }
 
 /* ---- buffers between pages that cannot be touched */
@@ -150,7 +241,10 @@ static void grow(size_t most) {
     nodes = params = 0;
     for (size_t k = 0; k < 4 * most && nodes < most; k++) {
         node_words(plan + NODE * nodes);
-        if (lup_check(plan, NODE * (nodes + 1), records, RECORD * MOST_NODES).number) continue;
+        given(GROWN);
+        lup_answer a = answered(lup_check(plan, NODE * (nodes + 1), records, RECORD * MOST_NODES));
+        expect(a.count == 0 && a.place == (a.number && a.number != 12 ? nodes : 0), "accepted, or refused at the new node");
+        if (a.number) continue;
         if (total() + count_of(nodes) > MOST_CELLS) continue;
         params += plan[NODE * nodes] == PARAM;
         nodes++;
@@ -196,39 +290,51 @@ static size_t spoil(uint8_t *bytes, size_t n) {
 
 /* ---- the calls */
 
-static void counted(uint64_t answer) {
-    if (answer < 25) refusals[answer]++;
-}
-
-static void unpack_turn(const uint8_t *bytes, size_t n) {
+/* Bytes with any room for their table; spoilt: they may not be those of the plan. */
+static void unpack_turn(const uint8_t *bytes, size_t n, int spoilt) {
     size_t room = one_in(3) ? below(NODE * (nodes + 2)) : (size_t)NODE * MOST_NODES;
     lay(&packed, bytes, n);
     lay(&table, NULL, 8 * room);
-    lup_answer a = lup_unpack(packed.at, n, (int64_t *)table.at, room);
-    counted(a.number);
-    expect(stays(&packed, 0), "unpack: its bytes as they were");
-    expect(a.number ? a.count == 0 && stays(&table, 0) : a.count - 1 < MOST_NODES && a.place == 0 && stays(&table, 8 * NODE * a.count), "unpack: its answer, and the table past it");
+    given(spoilt ? SPOILT : room < NODE * nodes ? PACKED_NO_ROOM : PACKED);
+    lup_answer a = answered(lup_unpack(packed.at, n, (int64_t *)table.at, room));
+    expect(stays(&packed, 0), "its bytes as they were");
+    if (a.number) expect(a.count == 0 && stays(&table, 0), "refused: no count, the table as it was");
+    else expect(a.count - 1 < MOST_NODES && a.place == 0 && stays(&table, 8 * NODE * a.count), "its answer, and the table past it");
+    int same = a.number == 0 && a.count == nodes && !memcmp(table.at, plan, 8 * NODE * nodes);
+    if (under_way == PACKED) expect(same, "the plan that was packed");
+    if (under_way == PACKED_NO_ROOM) expect(a.number == 14 && a.place == 0, "refused 14 at 0");
+    lup_answer c = {0, 0, 0};
+    if (a.number == 0) {
+        lay(&derived, NULL, 8 * RECORD * MOST_NODES);
+        given(UNPACKED);
+        c = answered(lup_check((int64_t *)table.at, NODE * a.count, (int64_t *)derived.at, RECORD * MOST_NODES));
+        expect(c.count == 0 && stays(&derived, c.number ? 0 : 8 * RECORD * a.count), "its answer, and the words past what it writes");
+    }
+    given(spoilt ? CODE_SPOILT : CODE_PACKED);
     uint64_t code = lup_unpack_check(packed.at, n);
-    expect(stays(&packed, 0), "unpack_check: its bytes as they were");
-    expect(code ? code <= MOST_NODES || code >> 16 < 25 : 0, "unpack_check: a count or a refusal");
-    if (a.number && a.number != 14) expect(code == 65536 * a.number + a.place, "unpack_check: unpack's refusal");
-    if (a.number) return;
-    lay(&derived, NULL, 8 * RECORD * MOST_NODES);
-    lup_answer c = lup_check((int64_t *)table.at, NODE * a.count, (int64_t *)derived.at, RECORD * MOST_NODES);
-    expect(code == (c.number ? 65536 * c.number + c.place : a.count), "unpack_check: what unpack and check give");
+    heard(code > MOST_NODES ? code >> 16 : 0, code > MOST_NODES ? code & 65535 : 0, code, 0, 0);
+    expect(stays(&packed, 0), "its bytes as they were");
+    expect(code ? code <= MOST_NODES || code >> 16 < ANSWERS : 0, "a count or a refusal");
+    if (!spoilt) expect(code == nodes, "the number of nodes");
+    if (a.number == 0) expect(code == (c.number ? 65536 * c.number + c.place : a.count), "what unpack and check give");
+    else if (a.number != 14) expect(code == 65536 * a.number + a.place, "unpack's refusal");
 }
 
-/* A check of words, with any room; whether it was accepted. */
-static int check_turn(const int64_t *words, size_t n) {
+/* A check of words with any room; changed: they may not be those of the plan. */
+static void check_turn(const int64_t *words, size_t n, int changed) {
     size_t room = one_in(3) ? below(RECORD * (n / NODE + 2)) : (size_t)RECORD * MOST_NODES;
+    int no_nodes = n % NODE || n == 0 || n > NODE * MOST_NODES;
     lay(&table, words, 8 * n);
     lay(&derived, NULL, 8 * room);
-    lup_answer a = lup_check((int64_t *)table.at, n, (int64_t *)derived.at, room);
-    counted(a.number);
-    expect(stays(&table, 0), "check: its table as it was");
-    expect(stays(&derived, a.number ? 0 : 8 * RECORD * (n / NODE)), "check: the words past what it writes");
-    expect(a.count == 0 && (a.number || a.place == 0), "check: its answer");
-    return a.number == 0;
+    given(no_nodes ? NO_NODES : changed ? WORDS : room < RECORD * nodes ? PLAN_NO_ROOM : PLAN);
+    lup_answer a = answered(lup_check((int64_t *)table.at, n, (int64_t *)derived.at, room));
+    expect(stays(&table, 0), "its table as it was");
+    expect(stays(&derived, a.number ? 0 : 8 * RECORD * (n / NODE)), "the words past what it writes");
+    expect(a.count == 0 && (a.number || a.place == 0), "its answer");
+    if (under_way == NO_NODES) expect(a.number == 1 && a.place == 0, "refused 1 at 0");
+    int same = a.number == 0 && n == NODE * nodes && !memcmp(derived.at, records, 8 * RECORD * nodes);
+    if (under_way == PLAN) expect(same, "accepted, with the same words as before");
+    if (under_way == PLAN_NO_ROOM) expect(a.number == 14 && a.place == 0, "refused 14 at 0");
 }
 
 /* Input for the PARAMs: mostly good. */
@@ -248,6 +354,19 @@ static size_t fill_input(int64_t *v, uint8_t *f, int bad) {
     return n;
 }
 
+/* The first fault of the input, with its position; 0 where it has none. */
+static lup_answer fault(const int64_t *v, const uint8_t *f) {
+    size_t n = 0;
+    for (size_t i = 0; i < nodes; i++) {
+        const int64_t *w = plan + NODE * i;
+        for (size_t k = 0, all = w[0] == PARAM ? count_of(i) : 0; k < all; k++, n++) {
+            if (f[n] > 1) return (lup_answer){15, n, 0};
+            if (f[n] && (v[n] < w[7] || v[n] > w[8])) return (lup_answer){16, n, 0};
+        }
+    }
+    return (lup_answer){0, 0, 0};
+}
+
 /* What a completed run has written. */
 static void cells_hold(uint64_t gaps) {
     const int64_t *v = (int64_t *)out_values.at;
@@ -262,36 +381,42 @@ static void cells_hold(uint64_t gaps) {
             last += f == 0;
         }
     }
-    expect(flags_right, "run: flags 0 or 1, and 0 under a gap");
-    expect(bounds_right, "run: known numbers in their bounds");
-    expect(last == gaps, "run: the gaps of the output");
-    expect(stays(&out_values, 8 * at) && stays(&out_flags, at), "run: places past what it writes");
+    expect(flags_right, "flags 0 or 1, and 0 under a gap");
+    expect(bounds_right, "known numbers in their bounds");
+    expect(last == gaps, "the gaps of the output");
+    expect(stays(&out_values, 8 * at) && stays(&out_flags, at), "places past what it writes");
 }
 
 /* A lookup of an element against the cells of a completed run. */
 static void lookup_turn(size_t n) {
     size_t node = below(nodes + 1), element = below(nodes > node ? count_of(node) + 1 : 9), start = 0, from = 0;
+    int64_t op = node < nodes ? plan[NODE * node] : 0;
+    int followed = (op >= PERMUTE && op <= SHRINK) || op == LOAD;
     lay(&table, plan, 8 * n);
-    lup_found f = lup_lookup((int64_t *)table.at, n, node, element);
-    expect(stays(&table, 0), "lookup: its table as it was");
-    counted(f.number);
-    if (node >= nodes || element >= count_of(node)) {
-        expect(f.number == 17 && !f.place && !f.found && !f.node && !f.element, "lookup: 17");
+    given(node >= nodes ? NO_NODE : element >= count_of(node) ? NO_ELEMENT : followed ? FOLLOWED : NOT_FOLLOWED);
+    lup_found f = found(lup_lookup((int64_t *)table.at, n, node, element));
+    expect(stays(&table, 0), "its table as it was");
+    if (under_way == NO_NODE || under_way == NO_ELEMENT) {
+        expect(f.number == 17 && !f.place && !f.found && !f.node && !f.element, "refused 17");
         return;
     }
-    expect(f.number == 0 && (f.found == 2 || (f.found == 1 && f.node <= node && f.element < count_of(f.node))), "lookup: a place that is there, or a gap");
+    int place = f.found == 1 && f.node <= node && f.element < count_of(f.node);
+    expect(f.number == 0 && f.place == 0 && (f.found == 2 || place), "a place that is there, or a gap");
+    if (under_way == NOT_FOLLOWED) expect(f.found == 1 && f.node == node && f.element == element, "itself");
     if (f.found == 1 && f.node > node) return;
     for (size_t k = 0; k < node; k++) start += count_of(k);
     for (size_t k = 0; k < f.node; k++) from += count_of(k);
     const int64_t *v = (int64_t *)out_values.at;
     start += element;
     from += f.element;
-    if (f.found == 2) expect(out_flags.at[start] == 0, "lookup: a gap where it finds one");
-    else expect(v[start] == v[from] && out_flags.at[start] == out_flags.at[from], "lookup: the same cell");
+    gaps_found += f.found == 2;
+    if (f.found == 2) expect(out_flags.at[start] == 0, "a gap where it finds one");
+    else expect(v[start] == v[from] && out_flags.at[start] == out_flags.at[from], "the same cell");
 }
 
 static lup_answer run(size_t n, size_t nvalues, size_t nflags, size_t room, size_t flag_room) {
-    return lup_run((int64_t *)table.at, n, (int64_t *)values.at, nvalues, flags.at, nflags, (int64_t *)out_values.at, room, out_flags.at, flag_room);
+    return answered(lup_run((int64_t *)table.at, n, (int64_t *)values.at, nvalues, flags.at, nflags,
+                            (int64_t *)out_values.at, room, out_flags.at, flag_room));
 }
 
 static void run_turn(void) {
@@ -307,19 +432,25 @@ static void run_turn(void) {
     lay(&flags, f, nflags);
     lay(&out_values, NULL, 8 * room);
     lay(&out_flags, NULL, flag_room);
+    lup_answer want = fault(v, f);
+    int which = want.number == 15 ? BAD_FLAG : want.number == 16 ? BAD_NUMBER : GOOD;
+    if (room < all || flag_room < all) which = room < all ? NO_VALUE_ROOM : NO_FLAG_ROOM, want = (lup_answer){14, 0, 0};
+    if (nvalues < n || nflags < n) which = nvalues < n ? FEW_VALUES : FEW_FLAGS, want = (lup_answer){13, 0, 0};
+    given(which);
     lup_answer a = run(NODE * nodes, nvalues, nflags, room, flag_room);
-    counted(a.number);
-    expect(stays(&table, 0) && stays(&values, 0) && stays(&flags, 0), "run: its plan and its input as they were");
+    expect(a.number == want.number && a.place == want.place, "the number and the place that are due");
+    expect(stays(&table, 0) && stays(&values, 0) && stays(&flags, 0), "its plan and its input as they were");
     if (a.number) {
-        expect(a.count == 0 && stays(&out_values, 0) && stays(&out_flags, 0), "run refused: both buffers as they were");
+        expect(a.count == 0 && stays(&out_values, 0) && stays(&out_flags, 0), "refused: no count, both buffers as they were");
         return;
     }
     completed++;
+    for (size_t k = 0; k < nodes; k++) operations[plan[NODE * k]]++;
     cells_hold(a.count);
     for (int k = 0; k < 4; k++) lookup_turn(NODE * nodes);
 }
 
-/* A run of words that no check has seen. */
+/* A run and a lookup of words that no check has seen. */
 static void wild_turn(const int64_t *words, size_t n) {
     size_t room = below(64);
     lay(&table, words, 8 * n);
@@ -327,13 +458,14 @@ static void wild_turn(const int64_t *words, size_t n) {
     lay(&flags, NULL, below(9));
     lay(&out_values, NULL, 8 * room);
     lay(&out_flags, NULL, room);
+    given(RUN_WORDS);
     lup_answer a = run(n, values.bytes / 8, flags.bytes, room, room);
-    counted(a.number);
-    expect(a.number == 0 || (stays(&out_values, 0) && stays(&out_flags, 0)), "run refused: both buffers as they were");
-    lup_found f = lup_lookup((int64_t *)table.at, n, (uint64_t)edge(), (uint64_t)edge());
-    counted(f.number);
-    expect(f.number == 0 || (!f.found && !f.node && !f.element), "lookup refused: no place");
-    expect(stays(&table, 0) && stays(&values, 0) && stays(&flags, 0), "a call: what it reads as it was");
+    if (a.number) expect(a.count == 0 && stays(&out_values, 0) && stays(&out_flags, 0), "refused: no count, both buffers as they were");
+    expect(stays(&table, 0) && stays(&values, 0) && stays(&flags, 0), "what it reads as it was");
+    given(LOOKUP_WORDS);
+    lup_found f = found(lup_lookup((int64_t *)table.at, n, (uint64_t)edge(), (uint64_t)edge()));
+    expect(f.number == 0 || (!f.found && !f.node && !f.element), "refused: no place");
+    expect(stays(&table, 0), "its table as it was");
 }
 
 static void one_turn(void) {
@@ -342,22 +474,60 @@ static void one_turn(void) {
     grow(one_in(30) ? MOST_NODES : 1 + below(12));
     if (nodes == 0) return;
     size_t n = pack(bytes);
-    unpack_turn(bytes, n);
-    unpack_turn(bytes, spoil(bytes, n));
+    unpack_turn(bytes, n, 0);
+    unpack_turn(bytes, spoil(bytes, n), 1);
     n = NODE * nodes;
-    check_turn(plan, n);
+    check_turn(plan, n, 0);
     run_turn();
     memcpy(words, plan, 8 * n);
     for (size_t k = 1 + below(3); k > 0; k--) words[below(n)] = edge();
     if (one_in(8)) n = below(n + NODE);
-    check_turn(words, n);
+    check_turn(words, n, 1);
     wild_turn(words, n);
 }
 
 static void stopped(int signal) {
-    printf("seed %lu, turn %lu: signal %d, a call touched what it may not\n", seed, turn, signal);
+    name_call();
+    printf("signal %d, it touched what it may not\n", signal);
     fflush(stdout);
     _exit(1);
+}
+
+static unsigned long passed, failed;
+
+/* One case: whether it was met and nothing of it was wrong. */
+static void counted(const char *export, const char *what, unsigned long met, unsigned long wrong) {
+    *(met && !wrong ? &passed : &failed) += 1;
+    if (!met) printf("seed %lu: never met in %lu turns: %s %s\n", seed, turn, export, what);
+    if (wrong) printf("seed %lu: wrong in %lu places: %s %s\n", seed, wrong, export, what);
+}
+
+/* All cases, the calls, the last line; the exit status. */
+static int finish(void) {
+    unsigned long calls = 0;
+    char what[80];
+    for (int k = 0; k < KINDS; k++) {
+        calls += kinds[k].calls;
+        snprintf(what, sizeof what, "on %s", kinds[k].given);
+        counted(exports[kinds[k].export], what, kinds[k].calls, kinds[k].wrong);
+    }
+    for (int k = 0; k < EXPORTS * ANSWERS; k++) {
+        snprintf(what, sizeof what, "answers %d", k % ANSWERS);
+        if (wanted[k / ANSWERS] >> k % ANSWERS & 1) counted(exports[k / ANSWERS], what, answers[k / ANSWERS][k % ANSWERS], 0);
+    }
+    for (int k = 0; k < OPERATIONS; k++) {
+        snprintf(what, sizeof what, "completes with a node of operation %d", k);
+        counted(exports[RUN], what, operations[k], 0);
+    }
+    counted(exports[LOOKUP], "finds a gap", gaps_found, 0);
+    printf("calls: %lu in %lu turns from seed %lu, %lu runs completed; refusals met", calls, turn, seed, completed);
+    for (int k = 1; k < ANSWERS; k++) {
+        unsigned long met = 0;
+        for (int e = 0; e < EXPORTS; e++) met += answers[e][k];
+        if (met) printf(" %d", k);
+    }
+    printf("\n%lu passed, %lu failed\n", passed, failed);
+    return failed != 0;
 }
 
 int main(int argc, char **argv) {
@@ -374,13 +544,9 @@ int main(int argc, char **argv) {
     signal(SIGFPE, stopped);
     packed = make(MOST_BYTES, 0), table = make(8 * MOST_WORDS, 1), derived = make(8 * RECORD * (MOST_NODES + 2), 2);
     values = make(8 * MOST_CELLS, 3), flags = make(MOST_CELLS, 4), out_values = make(8 * (MOST_CELLS + 8), 5), out_flags = make(MOST_CELLS + 8, 6);
-    for (turn = 0; time(NULL) < end; turn++) {
+    for (turn = 0; turn < LEAST_TURNS || time(NULL) < end; turn++) {
         state = seed * 1000003u + turn;
         one_turn();
     }
-    printf("%lu turns from seed %lu, %lu runs completed; answers", turn, seed, completed);
-    for (size_t k = 0; k < 25; k++)
-        if (refusals[k]) printf(" %zu: %lu", k, refusals[k]);
-    printf("\n%lu passed, %lu failed\n", passed, failed);
-    return failed != 0;
+    return finish();
 }

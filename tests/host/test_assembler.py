@@ -12,7 +12,7 @@ from random import Random
 
 sys.dont_write_bytecode = True
 ROOT = os.path.dirname(os.path.dirname(os.path.dirname(os.path.abspath(__file__))))
-sys.path[:0] = [os.path.join(ROOT, part) for part in ('host', 'tests/model', 'tests/boundary', 'demo')]
+sys.path[:0] = [os.path.join(ROOT, part) for part in ('host', 'tests/model', 'tests/boundary', 'tests/tools', 'demo')]
 
 import cases  # noqa: E402
 import lupasm  # noqa: E402
@@ -20,7 +20,7 @@ import make_bay  # noqa: E402
 import model  # noqa: E402
 import run_cases  # noqa: E402
 from cases import apply, const, move, node, param, reduce_node  # noqa: E402
-from tally import Tally  # noqa: E402
+from counting import Cases  # noqa: E402
 
 PROGRAM = os.path.join(ROOT, 'host', 'lupasm.py')
 WIND = param(0, 2, -500, 500, (40, 12))
@@ -51,12 +51,13 @@ WRONG = (
 def test_lines(tally):
     for line, words in LINES:
         text = f'w = param i16 -500..500 40x12 device 1\na = {line}  # the line\n'
-        tally.same(line, lupasm.table_of(text), WIND + words)
-        tally.same(line, lupasm.assemble(text), cases.pack(WIND + words))
-        again = lupasm.back(cases.pack(WIND + words))
-        tally.same(f'{line}, back', lupasm.table_of(again), WIND + words)
-        if not line.startswith('node'):
-            tally.same(f'{line}, back in words', ' = node ' in again, False)
+        with tally.case(line):
+            tally.same(line, lupasm.table_of(text), WIND + words)
+            tally.same(line, lupasm.assemble(text), cases.pack(WIND + words))
+            again = lupasm.back(cases.pack(WIND + words))
+            tally.same(f'{line}, back', lupasm.table_of(again), WIND + words)
+            if not line.startswith('node'):
+                tally.same(f'{line}, back in words', ' = node ' in again, False)
     for text, message in WRONG:
         try:
             tally.same(text[:60], lupasm.assemble(text), message)
@@ -69,8 +70,9 @@ def test_plans(tally, rng, count):
     for run in run_cases.random_runs(rng, count):
         data = cases.pack(run.table)
         text = lupasm.back(data)
-        tally.same('there and back', lupasm.assemble(text), data)
-        tally.same('in words', ' = node ' in text, False)
+        with tally.case((run.note, text)):
+            tally.same('there and back', lupasm.assemble(text), data)
+            tally.same('in words', ' = node ' in text, False)
     ends = [n for k in (0, 6, 7, 13, 14, 33, 34) for n in (2 ** k, -2 ** k, 2 ** k - 1) if -2 ** 34 <= n < 2 ** 34]
     for _ in range(count):
         table = []
@@ -118,7 +120,7 @@ def test_example(tally):
 
 def main():
     count = int(sys.argv[1]) if len(sys.argv) > 1 else 1000
-    rng, tally = Random(int(sys.argv[2]) if len(sys.argv) > 2 else 3), Tally()
+    rng, tally = Random(int(sys.argv[2]) if len(sys.argv) > 2 else 3), Cases()
     test_lines(tally)
     test_plans(tally, rng, count)
     test_program(tally)

@@ -18,14 +18,14 @@ from xml.etree import ElementTree
 sys.dont_write_bytecode = True
 HERE = os.path.dirname(os.path.abspath(__file__))
 ROOT = os.path.dirname(os.path.dirname(HERE))
-sys.path[:0] = [HERE, os.path.join(ROOT, 'tests', 'model')]
+sys.path[:0] = [HERE, *(os.path.join(ROOT, 'tests', part) for part in ('model', 'tools'))]
 
 import cases  # noqa: E402
 import model  # noqa: E402
 from cases import LARGE, apply, const, move, node, pack, param, reduce_node  # noqa: E402
+from counting import Cases  # noqa: E402
 from model import ADD, CAST, EXPAND, FLIP, IDIV, LOAD, MOD, PAD, PARAM, PERMUTE, RESHAPE, SHRINK, WHERE  # noqa: E402
 from program import QUICK, Program  # noqa: E402
-from tally import Tally  # noqa: E402
 from wording import (LARGE as MOST, OPERATIONS, RULES, SHADES, TYPES, drawing, field_bytes, lookup_texts, picture_rows, position_text, read_field,  # noqa: E402
                      refusal_text, shape_text, step)
 
@@ -67,17 +67,18 @@ def test_refusals(tally, lup):
     tally.same('every refusal that a plan file can meet', sorted({number for number, _, _ in several} | {16, 17}), sorted(RULES))
     lup.put('out.field', OLD)
     for number, place, data in several:
-        tally.same(('the model', data[:40].hex()), model.unpack_check(data), 65536 * number + place)
-        lup.put('bay.plan', data)
-        before, message = lup.files(), refusal_text('bay.plan', data)
-        where = f' at {"node" if number < 20 else "byte"} {place}' if number != 12 else ''
-        tally.holds('the message names number and place', message.startswith(f'lup: bay.plan: refused {number}{where}'), message)
-        tally.same(('check', number), lup.run('check', 'bay.plan'), (1, '', message))
-        tally.same(('list', number), lup.run('list', 'bay.plan'), (1, f'refused {number} at {place}\n', message))
-        tally.same(('list --dot', number), lup.run('list', '--dot', 'bay.plan'), (1, '', message))
-        tally.same(('run', number), lup.run('run', 'bay.plan', 'a.field', '-o', 'out.field'), (1, '', message))
-        tally.same(('lookup', number), lup.run('lookup', 'bay.plan', '999', '0'), (1, '', message))
-        tally.same(('nothing is written', number), lup.files() == before, True)
+        with tally.case((number, place, data[:40].hex())):
+            tally.same(('the model', data[:40].hex()), model.unpack_check(data), 65536 * number + place)
+            lup.put('bay.plan', data)
+            before, message = lup.files(), refusal_text('bay.plan', data)
+            where = f' at {"node" if number < 20 else "byte"} {place}' if number != 12 else ''
+            tally.holds('the message names number and place', message.startswith(f'lup: bay.plan: refused {number}{where}'), message)
+            tally.same(('check', number), lup.run('check', 'bay.plan'), (1, '', message))
+            tally.same(('list', number), lup.run('list', 'bay.plan'), (1, f'refused {number} at {place}\n', message))
+            tally.same(('list --dot', number), lup.run('list', '--dot', 'bay.plan'), (1, '', message))
+            tally.same(('run', number), lup.run('run', 'bay.plan', 'a.field', '-o', 'out.field'), (1, '', message))
+            tally.same(('lookup', number), lup.run('lookup', 'bay.plan', '999', '0'), (1, '', message))
+            tally.same(('nothing is written', number), lup.files() == before, True)
 
 
 def test_wording(tally, lup):
@@ -120,11 +121,12 @@ def test_lists(tally, lup, rng):
     tables = [make(rng, op) for op in range(21) for make in (lambda r, o: cases.make_plan(r, o, r.randint(0, 4)).table,) * 2]
     several = [pack(table) for table in tables] + [case.args[0] for case in cases.listings(60, rng.randrange(2 ** 32))]
     for data in [*several, *longest_plans()]:
-        lup.put('p.plan', data)
-        got = lup.run('list', 'p.plan')
-        tally.same(('list', data[:40].hex()), got, wanted_list('p.plan', data))
-        tally.same(('build/list', data[:40].hex()), got[1], listed(data))
-        tally.same(('check', data[:40].hex()), lup.run('check', 'p.plan'), wanted_check('p.plan', data))
+        with tally.case(('list', data[:40].hex())):
+            lup.put('p.plan', data)
+            got = lup.run('list', 'p.plan')
+            tally.same(('list', data[:40].hex()), got, wanted_list('p.plan', data))
+            tally.same(('build/list', data[:40].hex()), got[1], listed(data))
+            tally.same(('check', data[:40].hex()), lup.run('check', 'p.plan'), wanted_check('p.plan', data))
     lup.put('p.plan', pack(param(0, BOOL, 0, 1, (LARGE,)) + node(LOAD, {1: 0, 6: 1}) * 3))
     tally.same('the most elements', lup.run('check', 'p.plan'), (0, 'accepted: 4 nodes, 4194304 elements\n', ''))
 
@@ -158,9 +160,10 @@ def test_graphs(tally, lup, rng):
         first, _, *body, last, end = text.split('\n')
         nodes, edges = graph_of(table, model.verdict(table)[1])
         found = [NODE_LINE.fullmatch(line) for line in body[:len(nodes)]], [EDGE_LINE.fullmatch(line) for line in body[len(nodes):]]
-        tally.same('a graph', (status, errors, first, last, end), (0, '', 'digraph plan {', '}', ''))
-        tally.same('a line a node', [match and match.groups() for match in found[0]], nodes)
-        tally.same('an edge a source', [match and match.groups() for match in found[1]], edges)
+        with tally.case(('a graph', op)):
+            tally.same('a graph', (status, errors, first, last, end), (0, '', 'digraph plan {', '}', ''))
+            tally.same('a line a node', [match and match.groups() for match in found[0]], nodes)
+            tally.same('an edge a source', [match and match.groups() for match in found[1]], edges)
         met |= {line[2] for line in nodes}
     tally.same('every operation in a graph', met, set(OPERATIONS))
 
@@ -208,8 +211,9 @@ def run_once(tally, lup, rng, table, values, flags):
     extents, cells = read_field(field)
     report = (f'{missing}written: out.field, node {number} ({OPERATIONS[table[17 * number]]}) of shape {shape_text(extents)}, '
               f'{cells.count(None)} of {len(cells)} cells are gaps\n')
-    tally.same(('run', files), lup.run('run', *asked, 'p.plan', *files, '-o', 'out.field'), (0, report, ''))
-    tally.same(('field', files), lup.get('out.field') == field, True)
+    with tally.case(('run', report)):
+        tally.same(('run', files), lup.run('run', *asked, 'p.plan', *files, '-o', 'out.field'), (0, report, ''))
+        tally.same(('field', files), lup.get('out.field') == field, True)
     return bool(missing), cells.count(None) > 0, bool(asked)
 
 
@@ -220,9 +224,10 @@ def test_runs(tally, lup, rng):
         values, flags = cases.random_inputs(rng, plan)
         met.add(run_once(tally, lup, rng, plan.table, values, flags))
     tally.same('with and without missing files, gaps and --node', len(met) >= 6, True)
-    lup.put('p.plan', pack(const(I16, -7)))
-    tally.same('no PARAM', lup.run('run', 'p.plan', '-o', 'out.field'), (0, 'written: out.field, node 0 (CONST) of shape -, 0 of 1 cells are gaps\n', ''))
-    tally.same('no PARAM: field', read_field(lup.get('out.field')), ((), [-7]))
+    with tally.case('no PARAM'):
+        lup.put('p.plan', pack(const(I16, -7)))
+        tally.same('no PARAM', lup.run('run', 'p.plan', '-o', 'out.field'), (0, 'written: out.field, node 0 (CONST) of shape -, 0 of 1 cells are gaps\n', ''))
+        tally.same('no PARAM: field', read_field(lup.get('out.field')), ((), [-7]))
 
 
 def test_large_run(tally, lup, rng):
@@ -231,8 +236,9 @@ def test_large_run(tally, lup, rng):
     field = field_bytes((1024, 1024), [None if k % 7 == 0 else k * 4001 % 2 ** 32 - 2 ** 31 for k in range(MOST)])
     lup.put('large.field', field)
     report = f'written: out.field, node 3 (LOAD) of shape 1024x1024, {-(-MOST // 7)} of {MOST} cells are gaps\n'
-    tally.same('large run', lup.run('run', 'p.plan', 'large.field', '-o', 'out.field'), (0, report, ''))
-    tally.same('large field', lup.get('out.field') == field, True)
+    with tally.case('large run'):
+        tally.same('large run', lup.run('run', 'p.plan', 'large.field', '-o', 'out.field'), (0, report, ''))
+        tally.same('large field', lup.get('out.field') == field, True)
     os.remove(lup.at('large.field'))
 
 
@@ -257,8 +263,9 @@ def test_missing(tally, lup):
         told = ''.join(f'missing: {files[k]} (PARAM {k}, 2x3): read as gaps\n' for k in range(12) if not os.path.exists(lup.at(files[k])))
         gaps = 66 + 6 * (not os.path.exists(lup.at(files[11])))
         report = f'{told}written: out.field, node 23 (PAD) of shape 2x36, {gaps} of 72 cells are gaps\n'
-        tally.same(('missing', list(dead)), lup.run('run', 'bay.plan', *files, '-o', 'out.field'), (0, report, ''))
-        tally.same(('cells', list(dead)), read_field(lup.get('out.field'))[1].count(None), gaps)
+        with tally.case(('missing', list(dead))):
+            tally.same(('missing', list(dead)), lup.run('run', 'bay.plan', *files, '-o', 'out.field'), (0, report, ''))
+            tally.same(('cells', list(dead)), read_field(lup.get('out.field'))[1].count(None), gaps)
     wanted = 'missing: strip-07.field (PARAM 7, 2x3): read as gaps'
     tally.holds('the line of a missing strip', wanted in lup.run('run', 'bay.plan', *files, '-o', 'out.field')[1].split('\n'))
     tally.same('one that is nowhere, by a folder that is not there', lup.run('run', 'bay.plan', *files[:11], 'no/where.field', '-o', 'out.field')[0], 0)
@@ -277,11 +284,12 @@ def test_limits(tally, lup, rng):
         lup.put('p.plan', pack(plan.table))
         lup.put('out.field', OLD)
         before = lup.files()
-        answer = model.run(plan.table, values, flags, *([0] * plan.total() for _ in range(2)))
-        tally.same('the model', answer[:2], (16, bad))
-        wanted = (1, '', position_text('p.plan', files, plan.table, values, bad))
-        tally.same(('16', bad), lup.run('run', 'p.plan', *files, '-o', 'out.field'), wanted)
-        tally.same('FIELD stays', lup.files() == before, True)
+        with tally.case(('16', turn)):
+            answer = model.run(plan.table, values, flags, *([0] * plan.total() for _ in range(2)))
+            tally.same('the model', answer[:2], (16, bad))
+            wanted = (1, '', position_text('p.plan', files, plan.table, values, bad))
+            tally.same(('16', bad), lup.run('run', 'p.plan', *files, '-o', 'out.field'), wanted)
+            tally.same('FIELD stays', lup.files() == before, True)
     lup.put('p.plan', pack(param(0, I16, -9, 9, (2,)) + param(1, I16, -5, 5, (2, 3)) + apply(ADD, 1, 1)))
     lup.put('a.field', field_bytes((2,), [1, 2]))
     lup.put('b.field', field_bytes((2, 3), [0, 0, 0, 0, 0, 6]))
@@ -334,13 +342,14 @@ def test_shown(tally, lup, rng):
     for extents, cells in fields_to_show(rng):
         flags = [int(cell is not None) for cell in cells]
         lup.put('f.field', garbled(extents, [rng.randint(-10 ** 6, 10 ** 6) if cell is None else cell for cell in cells], flags))
-        status, text, errors = lup.run('show', 'f.field')
-        tally.same(('show', extents), (status, text, errors), (0, drawing('f.field', extents, cells), ''))
-        rows = picture_rows(text)
-        tally.same(('cells are two wide', extents), sum(map(len, rows)), 2 * len(cells))
-        tally.same(('no number in a cell', extents), [row for row in rows if re.search(r'[0-9 ]', row)], [])
-        pairs = [row[k:k + 2] for row in rows for k in range(0, len(row), 2)]
-        tally.same(('gaps are hatched', extents), [pair == '//' for pair in pairs], [cell is None for cell in cells])
+        with tally.case(('show', extents)):
+            status, text, errors = lup.run('show', 'f.field')
+            tally.same(('show', extents), (status, text, errors), (0, drawing('f.field', extents, cells), ''))
+            rows = picture_rows(text)
+            tally.same(('cells are two wide', extents), sum(map(len, rows)), 2 * len(cells))
+            tally.same(('no number in a cell', extents), [row for row in rows if re.search(r'[0-9 ]', row)], [])
+            pairs = [row[k:k + 2] for row in rows for k in range(0, len(row), 2)]
+            tally.same(('gaps are hatched', extents), [pair == '//' for pair in pairs], [cell is None for cell in cells])
     tally.same('word for word', lup.run('show', lup.put('f.field', field_bytes((2, 3), [0, None, 8, 4, 2, 6])))[1],
                'f.field, shape 2x3\n\n..//@@\n++--##\n\n0 .. :: -- == ++ ** ## %% @@ 8\n// gap: 1 of 6 cells\n')
 
@@ -363,33 +372,39 @@ def places(extents, shown):
     return found
 
 
+def test_one_svg(tally, lup, extents, cells):
+    known = [cell for cell in cells if cell is not None]
+    lup.put('f.field', field_bytes(extents, cells))
+    report = f'written: f.svg, {cells.count(None)} of {len(cells)} cells are gaps\n'
+    tally.same(('show --svg', extents), lup.run('show', 'f.field', '--svg', 'f.svg'), (0, report, ''))
+    root = ElementTree.fromstring(lup.get('f.svg'))
+    rects = root.findall(f'{SVG}rect')
+    tally.same(('a rectangle a cell', extents), [rect.get('class') for rect in rects], ['gap' if cell is None else 'known' for cell in cells])
+    tally.same(('their fill', extents), [rect.get('fill') for rect in rects], ['url(#gap)' if cell is None else colour(known, cell) for cell in cells])
+    rows, columns = ((1, 1) + tuple(extents))[-2:]
+    tally.same(('their places', extents), places(extents, rects), [(k // columns % rows, k % columns) for k in range(len(cells))])
+    tally.same(('no two at one place', extents), len({(rect.get('x'), rect.get('y')) for rect in rects}), len(cells))
+    legend = root.find(f'{SVG}g[@id="legend"]')
+    texts = [item.text for item in legend.findall(f'{SVG}text')]
+    ends = [str(min(known)), str(max(known))] if known else ['no known number']
+    tally.same(('legend', extents), texts, [*ends, f'gap: {cells.count(None)} of {len(cells)} cells'])
+    samples = ['url(#colours)'] * bool(known) + ['url(#gap)']
+    tally.same(('samples', extents), [rect.get('fill') for rect in legend.findall(f'{SVG}rect')], samples)
+    tally.same(('hatching', extents), len(root.findall(f'{SVG}defs/{SVG}pattern[@id="gap"]/{SVG}path')), 1)
+    titles = [item.text for item in root.findall(f'{SVG}text')]
+    tally.same(('titles', extents), len(titles), 1 + (prod(extents[:-2]) if len(extents) > 2 else 0))
+
+
 def test_svg(tally, lup, rng):
     for extents, cells in fields_to_show(rng):
-        known = [cell for cell in cells if cell is not None]
-        lup.put('f.field', field_bytes(extents, cells))
-        report = f'written: f.svg, {cells.count(None)} of {len(cells)} cells are gaps\n'
-        tally.same(('show --svg', extents), lup.run('show', 'f.field', '--svg', 'f.svg'), (0, report, ''))
-        root = ElementTree.fromstring(lup.get('f.svg'))
-        rects = root.findall(f'{SVG}rect')
-        tally.same(('a rectangle a cell', extents), [rect.get('class') for rect in rects], ['gap' if cell is None else 'known' for cell in cells])
-        tally.same(('their fill', extents), [rect.get('fill') for rect in rects], ['url(#gap)' if cell is None else colour(known, cell) for cell in cells])
-        rows, columns = ((1, 1) + tuple(extents))[-2:]
-        tally.same(('their places', extents), places(extents, rects), [(k // columns % rows, k % columns) for k in range(len(cells))])
-        tally.same(('no two at one place', extents), len({(rect.get('x'), rect.get('y')) for rect in rects}), len(cells))
-        legend = root.find(f'{SVG}g[@id="legend"]')
-        texts = [item.text for item in legend.findall(f'{SVG}text')]
-        ends = [str(min(known)), str(max(known))] if known else ['no known number']
-        tally.same(('legend', extents), texts, [*ends, f'gap: {cells.count(None)} of {len(cells)} cells'])
-        samples = ['url(#colours)'] * bool(known) + ['url(#gap)']
-        tally.same(('samples', extents), [rect.get('fill') for rect in legend.findall(f'{SVG}rect')], samples)
-        tally.same(('hatching', extents), len(root.findall(f'{SVG}defs/{SVG}pattern[@id="gap"]/{SVG}path')), 1)
-        titles = [item.text for item in root.findall(f'{SVG}text')]
-        tally.same(('titles', extents), len(titles), 1 + (prod(extents[:-2]) if len(extents) > 2 else 0))
+        with tally.case(('show --svg', extents)):
+            test_one_svg(tally, lup, extents, cells)
     for name in ('a&b<c>"d".field', 'ünder\x01\n.field', '-- ]]>.field'):
-        lup.put(name, OLD)
-        tally.same(('a strange name', name), lup.run('show', '--svg', 'f.svg', '--', name)[0], 0)
-        shown = ''.join(c if ' ' <= c <= '~' else '?' * len(c.encode()) for c in name)
-        tally.same(('its title', name), ElementTree.fromstring(lup.get('f.svg')).find(f'{SVG}text[@id="title"]').text, shown + ', shape 2')
+        with tally.case(('a strange name', name)):
+            lup.put(name, OLD)
+            tally.same(('a strange name', name), lup.run('show', '--svg', 'f.svg', '--', name)[0], 0)
+            shown = ''.join(c if ' ' <= c <= '~' else '?' * len(c.encode()) for c in name)
+            tally.same(('its title', name), ElementTree.fromstring(lup.get('f.svg')).find(f'{SVG}text[@id="title"]').text, shown + ', shape 2')
         os.remove(lup.at(name))
 
 
@@ -420,14 +435,15 @@ def test_damaged_fields(tally, lup):
     lup.put('p.plan', pack(SIX + move(FLIP, 0, (0, 1))))
     lup.put('out.field', OLD)
     for what, data, words in damaged_fields():
-        lup.put('bad.field', data)
-        before = lup.files()
-        for call in (('show', 'bad.field'), ('show', 'bad.field', '--svg', 'x.svg'), ('run', 'p.plan', 'bad.field', '-o', 'out.field')):
-            status, text, errors = lup.run(*call)
-            tally.same((what, call[0]), (status, text), (2, ''))
-            tally.holds((what, 'its message', call[0]), errors.startswith('lup: bad.field: not a field: ' + words), errors)
-        tally.same((what, 'nothing is written'), lup.files() == before, True)
-        tally.same((what, 'the reader here'), read_field(data), None)
+        with tally.case((what, words)):
+            lup.put('bad.field', data)
+            before = lup.files()
+            for call in (('show', 'bad.field'), ('show', 'bad.field', '--svg', 'x.svg'), ('run', 'p.plan', 'bad.field', '-o', 'out.field')):
+                status, text, errors = lup.run(*call)
+                tally.same((what, call[0]), (status, text), (2, ''))
+                tally.holds((what, 'its message', call[0]), errors.startswith('lup: bad.field: not a field: ' + words), errors)
+            tally.same((what, 'nothing is written'), lup.files() == before, True)
+            tally.same((what, 'the reader here'), read_field(data), None)
     os.mkdir(lup.at('folder'))
     for call in (('show', 'folder'), ('run', 'p.plan', 'folder', '-o', 'out.field'), ('check', 'folder'), ('list', 'folder'), ('lookup', 'folder', '0', '0')):
         status, text, errors = lup.run(*call)
@@ -447,8 +463,9 @@ def test_round_trip(tally, lup, rng):
             lup.put('p.plan', pack(param(0, I32, -2 ** 31, 2 ** 31 - 1, extents)))
             lup.put('a.field', garbled(extents, [rng.randint(-2 ** 63, 2 ** 63 - 1) if cell is None else cell for cell in cells],
                                        [int(cell is not None) for cell in cells]))
-            tally.same(('round trip', extents), lup.run('run', 'p.plan', 'a.field', '-o', 'b.field')[0], 0)
-            tally.same(('its bytes', extents), lup.get('b.field') == field_bytes(extents, cells), True)
+            with tally.case(('round trip', extents)):
+                tally.same(('round trip', extents), lup.run('run', 'p.plan', 'a.field', '-o', 'b.field')[0], 0)
+                tally.same(('its bytes', extents), lup.get('b.field') == field_bytes(extents, cells), True)
 
 
 # ----------------------------------------------------- output, whole or none
@@ -494,15 +511,17 @@ def test_output(tally, lup):
     os.link(lup.at('a.field'), lup.at('hard.field'))
     before = lup.files()
     for call, words in refused_outputs(lup):
-        status, text, errors = lup.run(*call)
-        tally.same((call, 'status'), (status, text), (2, ''))
-        tally.holds((call, 'message'), errors.startswith('lup: ') and words in errors and errors.count('\n') == 1, errors)
-        tally.same((call, 'all stays'), lup.files() == before, True)
+        with tally.case(call):
+            status, text, errors = lup.run(*call)
+            tally.same((call, 'status'), (status, text), (2, ''))
+            tally.holds((call, 'message'), errors.startswith('lup: ') and words in errors and errors.count('\n') == 1, errors)
+            tally.same((call, 'all stays'), lup.files() == before, True)
     for name in ('link.field', 'hard.field', 'pipe.field'):
         os.remove(lup.at(name))
-    tally.same('a file in another folder', lup.run('run', 'p.plan', 'a.field', '-o', 'folder/a.field')[0], 0)
-    tally.same('its cells', read_field(lup.get('folder/a.field')), ((4,), [None, 7, 9, None]))
-    tally.same('nothing beside it', os.listdir(lup.at('folder')), ['a.field'])
+    with tally.case('a file in another folder'):
+        tally.same('a file in another folder', lup.run('run', 'p.plan', 'a.field', '-o', 'folder/a.field')[0], 0)
+        tally.same('its cells', read_field(lup.get('folder/a.field')), ((4,), [None, 7, 9, None]))
+        tally.same('nothing beside it', os.listdir(lup.at('folder')), ['a.field'])
     os.remove(lup.at('folder/a.field'))
     os.rmdir(lup.at('folder'))
 
@@ -535,9 +554,10 @@ def test_full(tally, lup):
     """A disk that is full under FIELD, and standard output that cannot be written."""
     before = lup.files()
     for call in (('run', 'p.plan', 'a.field', '-o', 'out.field'), ('show', 'a.field', '--svg', 'out.svg')):
-        status, text, errors = lup.run(*call, preexec_fn=short_files)
-        tally.same((call, 'full'), (status, text, errors), (2, '', f'lup: {call[-1]}: it cannot be written: File too large\n'))
-        tally.same((call, 'full, all stays'), lup.files() == before, True)
+        with tally.case((call, 'full')):
+            status, text, errors = lup.run(*call, preexec_fn=short_files)
+            tally.same((call, 'full'), (status, text, errors), (2, '', f'lup: {call[-1]}: it cannot be written: File too large\n'))
+            tally.same((call, 'full, all stays'), lup.files() == before, True)
     message = 'lup: standard output cannot be written\n'
     with os.fdopen(os.open('/dev/full', os.O_WRONLY), 'wb') as full:
         for call in (('list', 'p.plan'), ('list', '--dot', 'p.plan'), ('check', 'p.plan'), ('lookup', 'p.plan', '0', '0'), ('show', 'a.field'), ('--help',),
@@ -583,9 +603,10 @@ def test_misuse(tally, lup):
     lup.put('a.field', field_bytes((2,), [7, 9]))
     before = lup.files()
     for call, words in MISUSE:
-        status, text, errors = lup.run(*call)
-        tally.same((call, 'status'), (status, text), (2, ''))
-        tally.holds((call, 'message'), errors.startswith('lup: ') and words in errors, errors)
+        with tally.case(call):
+            status, text, errors = lup.run(*call)
+            tally.same((call, 'status'), (status, text), (2, ''))
+            tally.holds((call, 'message'), errors.startswith('lup: ') and words in errors, errors)
     tally.same('misuse writes nothing', lup.files() == before, True)
     tally.same('every command is misused', {call[0] for call, _ in MISUSE if call} >= set(COMMANDS), True)
 
@@ -598,9 +619,10 @@ def test_help(tally, lup):
     tally.same('the same on misuse', all(usage in lup.run()[2] for usage, _ in usages), True)
     for usage, name in usages:
         for call in ((name, '--help'), (name, 'x', '--help', '-q')):
-            status, text, errors = lup.run(*call)
-            tally.same((call, 'help'), (status, text.split('\n')[0], errors), (0, usage, ''))
-            tally.holds((call, 'exit statuses'), 'Exit status: 0 done; 1 refused' in text)
+            with tally.case(call):
+                status, text, errors = lup.run(*call)
+                tally.same((call, 'help'), (status, text.split('\n')[0], errors), (0, usage, ''))
+                tally.holds((call, 'exit statuses'), 'Exit status: 0 done; 1 refused' in text)
 
 
 # ------------------------------------------------------------ random damage
@@ -654,17 +676,18 @@ def test_damaged_cells(tally, lup, rng, count):
         data = changed(rng, rng.choice(fields)) if turn % 5 else field_bytes((2, 3), [rng.choice((None, rng.randint(-10, 10))) for _ in range(6)])
         read, before = read_field(data), lup.get('out.field')
         lup.put('f.field', data)
-        if turn % 2:
-            status, text, errors = lup.run('show', 'f.field', environment=QUICK)
-            tally.same(('show', data.hex()), (status, text), (0, drawing('f.field', *read)) if read else (2, ''))
-        else:
-            status, text, errors = lup.run('run', 'p.plan', 'f.field', '-o', 'out.field', environment=QUICK)
-            fits = read is not None and read[0] == (2, 3)
-            inside = fits and all(cell is None or -9 <= cell <= 9 for cell in read[1])
-            tally.same(('run', data.hex()), status, 0 if inside else 1 if fits else 2)
-            flipped = field_bytes((2, 3), [read[1][k] for k in (2, 1, 0, 5, 4, 3)]) if inside else before
-            tally.same(('its field', data.hex()), lup.get('out.field') == flipped, True)
-        tally.same(('a message where it failed', data.hex()), errors.startswith('lup: f.field: '), status != 0)
+        with tally.case((turn, data.hex())):
+            if turn % 2:
+                status, text, errors = lup.run('show', 'f.field', environment=QUICK)
+                tally.same(('show', data.hex()), (status, text), (0, drawing('f.field', *read)) if read else (2, ''))
+            else:
+                status, text, errors = lup.run('run', 'p.plan', 'f.field', '-o', 'out.field', environment=QUICK)
+                fits = read is not None and read[0] == (2, 3)
+                inside = fits and all(cell is None or -9 <= cell <= 9 for cell in read[1])
+                tally.same(('run', data.hex()), status, 0 if inside else 1 if fits else 2)
+                flipped = field_bytes((2, 3), [read[1][k] for k in (2, 1, 0, 5, 4, 3)]) if inside else before
+                tally.same(('its field', data.hex()), lup.get('out.field') == flipped, True)
+            tally.same(('a message where it failed', data.hex()), errors.startswith('lup: f.field: '), status != 0)
         met.add((turn % 2, status))
     tally.holds('readable and unreadable fields', met >= {(1, 0), (1, 2), (0, 0), (0, 1), (0, 2)} or count < 100, met)
 
@@ -708,11 +731,12 @@ def test_random_calls(tally, lup, rng, count):
         before, call = lup.files(), random_call(rng)
         status, text, errors = lup.run(*call, environment=QUICK)
         after = lup.files()
-        tally.holds(('status', call), status in (0, 1, 2) and (errors.startswith('lup: ') if status else errors == ''), (status, errors))
-        written = re.findall(r'^written: (.*?), (?:node|\d+ of)', text, re.M)
-        new = [os.path.relpath(path, lup.folder) for path in after if path not in before or before[path] != after[path]]
-        tally.holds(('what is written', call), set(before) <= set(after) and all(os.path.normpath(name) in map(os.path.normpath, written) for name in new)
-                    and bool(written) <= (status == 0), (new, written))
+        with tally.case(call):
+            tally.holds(('status', call), status in (0, 1, 2) and (errors.startswith('lup: ') if status else errors == ''), (status, errors))
+            written = re.findall(r'^written: (.*?), (?:node|\d+ of)', text, re.M)
+            new = [os.path.relpath(path, lup.folder) for path in after if path not in before or before[path] != after[path]]
+            tally.holds(('what is written', call), set(before) <= set(after) and all(os.path.normpath(name) in map(os.path.normpath, written) for name in new)
+                        and bool(written) <= (status == 0), (new, written))
         met.add((call[0] if call else '', status))
         for name in new:
             os.remove(lup.at(name))
@@ -724,7 +748,7 @@ def test_random_calls(tally, lup, rng, count):
 def main():
     path = sys.argv[1] if len(sys.argv) > 1 else os.environ.get('LUP', os.path.join(ROOT, 'build', 'lup'))
     count = int(sys.argv[2]) if len(sys.argv) > 2 else 1500
-    rng, tally = Random(int(sys.argv[3]) if len(sys.argv) > 3 else 6), Tally()
+    rng, tally = Random(int(sys.argv[3]) if len(sys.argv) > 3 else 6), Cases()
     with tempfile.TemporaryDirectory() as folder:
         os.chmod(folder, 0o755)
         lup = Program(path, folder)
@@ -735,8 +759,7 @@ def main():
         for test in (test_damaged_plans, test_damaged_cells, test_random_calls):
             test(tally, lup, rng, count // 3)
         tally.same('no temporary file is left', [name for name in os.listdir(folder) if name.endswith('.tmp')], [])
-        print(f'{os.path.relpath(lup.path)}: {lup.calls} calls')
-    tally.finish()
+    tally.finish(f'{lup.calls} of {os.path.relpath(lup.path)}')
 
 
 if __name__ == '__main__':

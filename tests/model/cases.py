@@ -5,8 +5,8 @@ expected(case) runs the model on fresh buffers.
 """
 
 from dataclasses import dataclass
+from itertools import combinations, islice
 from itertools import count as count_from
-from itertools import islice
 from math import prod
 from random import Random
 
@@ -83,6 +83,17 @@ def apply(op, *sources):
 
 def reduce_node(source, number, flags):
     return node(REDUCE, {1: source, 5: number, **row(9, flags)})
+
+
+def at_axis(axis, item, others=0):
+    """A row of four: the item at the axis, and others."""
+    return tuple(item if k == axis else others for k in range(4))
+
+
+def smallest(op, words):
+    """A CONST of 1 and a node on it with these words, all others 0 but the device that PARAM and LOAD need."""
+    device = {6: 9} if op in (PARAM, LOAD) else {}
+    return const(0 if op in (AND, OR, WHERE) else 2, 1) + node(op, {**device, **words})
 
 
 def packed_numbers(table):
@@ -421,10 +432,9 @@ def size_tables():
         yield f'PAD to {shape}', large((1, 1)) + move(PAD, 0, shape, (1, 0))
     for sides in ((1024, 1024), (17, 61681)):
         yield f'broadcast {sides}', large((sides[0], 1), (sides[1],)) + apply(MUL, 0, 1)
-    for columns in (1024, 1025):
-        condition = param(0, 0, 0, 1, (2, 1, 1))
-        table = condition + param(1, 3, 0, 1, (512, 1)) + param(2, 3, 0, 1, (columns,))
-        yield f'WHERE {columns}', table + apply(WHERE, 0, 1, 2)
+    for shapes in (((2, 1, 1), (512, 1), (1024,)), ((2, 1, 1), (512, 1), (1025,)), ((17, 1), (61681,), ())):
+        table = sum((param(k, 3 if k else 0, 0, 1, shape) for k, shape in enumerate(shapes)), [])
+        yield f'WHERE {shapes}', table + apply(WHERE, 0, 1, 2)
     yield 'sum of 1048576', param(0, 3, -2048, 2047, (1024, 1024)) + reduce_node(0, 0, (1, 1))
     yield 'sum leaves', param(0, 3, -2048, 2048, (1024, 1024)) + reduce_node(0, 0, (1, 1))
     yield 'max of all', param(0, 3, I32_LOW, I32_HIGH, (LARGE,)) + reduce_node(0, 1, (1,))
@@ -708,6 +718,11 @@ def listings(count, seed):
 # What random plans rarely meet. A wrong rule that the other groups let pass is why
 # each of these is here.
 
+FOUR_TWOS = (2, 2, 2, 2)
+SINGLE_OF_FOUR = tuple(at_axis(axis, 1) for axis in range(4))
+FLAGS_OF_FOUR = (*SINGLE_OF_FOUR, (1, 0, 1, 0), (0, 1, 0, 1))
+
+
 def type_tables():
     """Types that meet, and the ends of every type."""
     for op in model.BINARY:
@@ -716,6 +731,7 @@ def type_tables():
     for several in ((1, 3, 3), (0, 0, 3), (0, 3, 0), (0, 0, 0)):
         yield draft(WHERE, {(k, 'dtype'): dtype for k, dtype in enumerate(several, 1)})
     yield draft(REDUCE, {(1, 'dtype'): 0, 5: 1})
+    yield from (draft(op, DRAFTS[op][0], {4: -1}) for op in (PARAM, CAST))
     inside = []
     for slot, (dtype, (low, high)) in enumerate(model.TYPE_LIMITS.items()):
         yield from (const(dtype, low - 1), const(dtype, high + 1))
@@ -727,7 +743,7 @@ def type_tables():
 def device_tables():
     """Devices at their ends, three that differ, and the one device from every place."""
     for op in (PARAM, LOAD):
-        yield from (draft(op, DRAFTS[op][0], {6: device}) for device in (0, 1, 255, 256))
+        yield from (draft(op, DRAFTS[op][0], {6: device}) for device in (-1, 0, 1, 255, 256))
     for place in (1, 2, 3):
         yield draft(WHERE, {(1, 'dtype'): 0, (place, 'device'): 2})
     two = param(0, 0, 0, 1, (), 1) + param(1, 0, 0, 1, (), 2) + const(0, 1)
@@ -761,23 +777,62 @@ def bound_tables():
             yield interval_params(2, ((-7, 7), ends)) + apply(op, 0, 1)
     flags = [(number, row_a) for number in (0, 1) for row_a in ((0, 0), (0, 1), (1, 0), (1, 1))]
     yield param(0, 2, -4, 10, (2, 3)) + sum((reduce_node(0, *several) for several in flags), [])
+    several = [reduce_node(0, number, flags) for number in (0, 1) for flags in FLAGS_OF_FOUR]
+    yield param(0, 2, -4, 10, (2, 3, 5, 7)) + sum(several, [])
 
 
 def place_tables():
-    """Sources not earlier, offsets at their limit, and three shapes that meet."""
+    """Sources not earlier, counts and offsets at their limit, a slot twice, and three shapes that meet."""
     for op, word in ((WHERE, 1), (WHERE, 2), (ADD, 1)):
         base = draft(op, DRAFTS[op][0])
         yield from (draft(op, DRAFTS[op][0], {word: v}) for v in (len(base) // 17 - 1, -1))
+    yield from (smallest(op, {1: 1}) for op in model.BINARY if op != ADD)
+    yield from (draft(RESHAPE, {9: elements}) for elements in (5, 7))
     for op in (PAD, SHRINK):
         yield from (draft(op, DRAFTS[op][0], {13: offset}) for offset in (LARGE, LARGE + 1))
+    yield large((1,)) * 2
     for several in (((1, 3), (2, 3), (3, 3)), ((1, 1), (2, 1), (3, 1)), ((2, 1, 1), (3, 1), (4,)),
                     ((2, 3), (1,), (3, 3))):
         shapes = {(k, 'extents'): shape for k, shape in enumerate(several, 1)}
         yield draft(WHERE, {(1, 'dtype'): 0}, shapes)
 
 
+def unused_tables():
+    """Word 6 of every operation that does not use it, and each other word of one that does not."""
+    for word in range(1, 17):
+        ops = [op for op in range(21) if word not in model.USED_WORDS[op]]
+        yield from (smallest(op, {word: 1}) for op in (ops if word == 6 else [ops[5 * word % len(ops)]]))
+
+
+def axis_tables():
+    """What one axis of four breaks: a fit, a flag, an offset, a number of PERMUTE, an extent."""
+    source = large(FOUR_TWOS)
+    for axis in range(4):
+        yield large(FOUR_TWOS, at_axis(axis, 3, 2)) + apply(MUL, 0, 1)
+        yield source + move(PAD, 0, (3,) * 4, at_axis(axis, 2, 1))
+        yield source + move(SHRINK, 0, at_axis(axis, 2, 1), (1,) * 4)
+        yield source + move(EXPAND, 0, at_axis(axis, 4, 2))
+        flags = at_axis(axis, (-1, 2 ** 32, 7, 2)[axis], 1)
+        yield from (source + move(FLIP, 0, flags), source + reduce_node(0, 1, flags))
+        offsets = at_axis(axis, (-1, LARGE + 1)[axis % 2])
+        yield from (source + move(PAD, 0, (3,) * 4, offsets), source + move(SHRINK, 0, (1,) * 4, offsets))
+        other = (4, -1, 0, 0)[axis]
+        yield source + move(PERMUTE, 0, [other if k == axis else k for k in range(4)])
+        yield from (large(at_axis(axis, extent, 2)) for extent in (-2, LARGE + 1))
+
+
+def past_rank_tables():
+    """The first word past the source's rank, in each row that the rank measures."""
+    for rank in range(4):
+        source, past = large(FOUR_TWOS[:rank]), (*[0] * rank, 1)
+        yield source + move(PERMUTE, 0, (*range(rank), 1))
+        yield from (source + move(FLIP, 0, past), source + reduce_node(0, 1, past))
+        yield from (source + move(op, 0, FOUR_TWOS[:rank], past) for op in (PAD, SHRINK))
+
+
 def hand_checks():
-    for tables in (type_tables(), device_tables(), bound_tables(), place_tables()):
+    for tables in (type_tables(), device_tables(), bound_tables(), place_tables(), unused_tables(),
+                   axis_tables(), past_rank_tables()):
         for table in tables:
             yield Case('check', (table, 8 * (len(table) // 17)), 'check by hand')
     over = large(*[(LARGE,)] * 4) + const(0, 1)
@@ -799,9 +854,10 @@ def elementwise_runs():
     table = param(0, 2, -7, 7, (7,)) + param(1, 2, 1, 3, (2, 1)) + param(2, 2, -3, -1, (2, 1))
     table += sum((apply(op, 0, divisor) for op in (IDIV, MOD) for divisor in (1, 2)), [])
     yield hand_run(table, [-7, -6, -1, 0, 1, 6, 7, 2, 3, -2, -3])
-    table = param(0, 2, -4, 9, (3,)) + param(1, 2, -4, 9, (3, 1))
+    yield hand_run(table, [-7, None, -1, 0, 1, 6, 7, None, 3, -2, None])
+    table = param(0, 2, -4, 9, (4,)) + param(1, 2, -4, 9, (3, 1))
     table += sum((apply(op, 0, 1) for op in (ADD, MUL, MAX, CMPLT, CMPNE)), [])
-    yield hand_run(table, [-2, 3, None, 3, None, -2])
+    yield hand_run(table, [-2, 3, None, 2, 3, None, -2])
     table = param(0, 0, 0, 1, (3,)) + param(1, 0, 0, 1, (3, 1))
     yield hand_run(table + sum((apply(op, 0, 1) for op in (AND, OR, CMPNE)), []),
                    [0, 1, None, 0, 1, None])
@@ -817,6 +873,51 @@ def elementwise_runs():
                   for flags in ((0, 0), (0, 1), (1, 0), (1, 1))), [])
     yield hand_run(table, [1, -5, 3, -4, 7, 2])
     yield hand_run(table, [1, -5, 3, None, 7, 2])
+
+
+def rank_runs():
+    """Operands of each rank under each higher one on either side, and with a last axis that is the same."""
+    table = sum((param(k, 2, 0, 2000, (2, *[1] * k)) for k in range(4)), [])
+    for turn in (1, -1):
+        pairs = [apply(ADD, *pair[::turn]) for pair in combinations(range(4), 2)]
+        yield hand_run(table + sum(pairs, []), [n * 10 ** k for k in range(4) for n in (1, 2)])
+    table = sum((param(k, 2 * (k > 3), 0, 9 if k > 3 else 1, (2, *[1] * (k % 4))) for k in range(8)), [])
+    for several in (((3, 4, 5), (0, 5, 6)), ((1, 6, 7), (2, 7, 4), (0, 5, 4))):
+        table_of = table + sum((apply(WHERE, *three) for three in several), [])
+        yield hand_run(table_of, [1, 0, 0, 1, 1, 0, 0, 1, 1, 2, 3, 4, 5, 6, 7, 8])
+    table = param(0, 2, 0, 99, (2, 1, 1, 3)) + param(1, 2, 0, 99, (3,)) + param(2, 0, 0, 1, (3,))
+    table += apply(ADD, 0, 1) + apply(ADD, 1, 0) + apply(WHERE, 2, 0, 1) + apply(WHERE, 2, 1, 0)
+    yield hand_run(table, [1, 2, 3, 4, None, 6, 10, 20, 30, 0, 1, 1])
+
+
+def single_runs():
+    """Operations of two numbers at each rank, and flags that are neither 0 nor 1."""
+    for rank in range(5):
+        shape = (1, 1, 1, 2)[4 - rank:]
+        table = param(0, 0, 0, 1, shape) + param(1, 0, 0, 1, shape) + param(2, 2, -9, 9, shape)
+        table += param(3, 2, 1, 9, shape) + apply(AND, 0, 1) + apply(OR, 0, 1)
+        table += sum((apply(op, 2, 3) for op in (MUL, MAX, IDIV, MOD, CMPLT, CMPNE)), [])
+        yield hand_run(table, [k for pair in ((0, 1), (1, 1), (-7, 5), (2, 3)) for k in pair[:prod(shape)]])
+    for flag in (4, 7, 8, 16, 32, 64, 127):
+        yield Case('run', (large((2,)), [1, 1], [1, flag], 2, 2), f'flag {flag} by hand')
+
+
+def axis_runs():
+    """Each movement and REDUCE by each single axis of four, some by two, and PERMUTE by turns of four."""
+    turns = ((1, 0, 2, 3), (0, 2, 1, 3), (0, 1, 3, 2), (1, 2, 3, 0), (3, 0, 1, 2))
+    for nodes in ([move(FLIP, 0, flags) for flags in FLAGS_OF_FOUR],
+                  [move(SHRINK, 0, at_axis(axis, 1, 2), at_axis(axis, 1)) for axis in range(4)],
+                  [move(PERMUTE, 0, turn) for turn in turns],
+                  [reduce_node(0, 0, flags) for flags in FLAGS_OF_FOUR],
+                  [reduce_node(0, 1, flags) for flags in FLAGS_OF_FOUR]):
+        table = param(0, 2, 0, 15, FOUR_TWOS) + sum(nodes, [])
+        yield hand_run(table, [None if k == 11 else k for k in range(16)])
+    shape, table = (2, 1, 2, 1), param(0, 2, 0, 9, (2, 1, 2, 1))
+    for single in SINGLE_OF_FOUR:
+        table += move(PAD, 0, [extent + 2 * one for extent, one in zip(shape, single)], single)
+    yield hand_run(table, [1, 2, None, 4])
+    table = param(0, 2, 0, 7, (8,)) + sum((move(RESHAPE, 0, at_axis(axis, 1, 2)) for axis in range(4)), [])
+    yield hand_run(table + sum((move(EXPAND, 1 + axis, FOUR_TWOS) for axis in range(4)), []), [*range(7), None])
 
 
 def movement_runs():
@@ -838,9 +939,20 @@ def movement_runs():
     yield hand_run(table + node(LOAD, {1: 5, 6: 9}), [1, None, 3, 4, 5])
 
 
+def axis_lookups():
+    """Each movement by each single axis of four."""
+    for axis, single in enumerate(SINGLE_OF_FOUR):
+        yield large(FOUR_TWOS) + move(FLIP, 0, single), 0
+        yield large(FOUR_TWOS) + move(SHRINK, 0, at_axis(axis, 1, 2), single), 0
+        yield large(at_axis(axis, 1, 2)) + move(EXPAND, 0, FOUR_TWOS), 15
+        yield from ((large((1,) * 4) + move(PAD, 0, at_axis(axis, 3, 1), single), e) for e in (0, 2))
+
+
 def hand_lookups():
+    for table, element in axis_lookups():
+        yield Case('lookup', (table, 1, element), 'lookup by hand')
     for turn in ((1, 2, 3, 0), (3, 0, 1, 2), (1, 3, 0, 2), (2, 0, 3, 1)):
-        table = large((2, 3, 1, 4)) + move(PERMUTE, 0, turn)
+        table = large((2, 3, 2, 4)) + move(PERMUTE, 0, turn)
         yield from (Case('lookup', (table, 1, e), 'lookup by hand') for e in (5, 14))
     table = large((2, 2)) + move(PAD, 0, (4, 5), (1, 1))
     for element in (1, 5, 6, 8, 12, 16):
@@ -855,8 +967,8 @@ def hand_cases(count, seed):
     table = []
     for op in range(21):
         table += node(op, {w: (7 * op + w) * (-1) ** w for w in model.USED_WORDS[op]})
-    several = [Case('unpack', (pack(table), len(table)), 'every operation'), *hand_checks(),
-               *elementwise_runs(), *movement_runs(), *hand_lookups()]
+    several = [Case('unpack', (pack(table), len(table)), 'every operation'), *elementwise_runs(),
+               *movement_runs(), *hand_checks(), *rank_runs(), *single_runs(), *axis_runs(), *hand_lookups()]
     yield from chosen(rng, several, count, lambda case: case.call)
 
 
@@ -866,7 +978,7 @@ GROUPS = {
     'intervals': (interval_cases, 96), 'limits': (limit_cases, 110),
     'buffers': (buffer_cases, 65), 'run inputs': (run_inputs, 100),
     'packed bytes': (packed_bytes, 190), 'packed plans': (packed_plans, 20),
-    'lookups': (lookups, 108), 'listings': (listings, 30), 'by hand': (hand_cases, 150),
+    'lookups': (lookups, 108), 'listings': (listings, 30), 'by hand': (hand_cases, 320),
 }
 
 

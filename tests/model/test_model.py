@@ -26,14 +26,14 @@ class Compared(unittest.TestCase):
 
     def refused(self, table, number, place, note=''):
         derived = cases.fresh_words(8 * 256)
-        self.same(model.check(table, derived), Answer(number, place, 0), note)
-        self.same(derived, cases.fresh_words(8 * 256), note)
+        answer = model.check(table, derived)
+        self.same((answer, derived), (Answer(number, place, 0), cases.fresh_words(8 * 256)), note)
 
     def bounds(self, table, low, high, note=''):
         derived = [0] * 8 * 256
-        self.same(model.check(table, derived), Answer(0, 0, 0), note)
+        answer = model.check(table, derived)
         last = 8 * (len(table) // 17 - 1)
-        self.same(derived[last + 2:last + 4], [low, high], note)
+        self.same((answer, derived[last + 2:last + 4]), (Answer(0, 0, 0), [low, high]), note)
 
     def values(self, table, inputs, want, note=''):
         """The output's elements of a run, GAP for a gap."""
@@ -41,12 +41,12 @@ class Compared(unittest.TestCase):
         flags = [int(v is not GAP) for v in inputs]
         out, known = [5] * 200, [5] * 200
         answer = model.run(table, values, flags, out, known)
-        self.same(answer, Answer(0, 0, want.count(GAP)), note)
         end = known.index(5) if 5 in known else 200
         first = end - len(want)
-        self.same([v if f else GAP for v, f in zip(out[first:end], known[first:end])], want, note)
-        self.same(all(v == 0 for v, f in zip(out[:end], known) if f == 0), True, note)
-        self.same(out[end:] + known[end:], [5] * (400 - 2 * end), note)
+        cells = [v if f else GAP for v, f in zip(out[first:end], known[first:end])]
+        under_gaps = {v for v, f in zip(out[:end], known) if f == 0} - {0}
+        self.same((answer, cells, under_gaps, out[end:] + known[end:]),
+                  (Answer(0, 0, want.count(GAP)), want, set(), [5] * (400 - 2 * end)), note)
 
 
 def two(op, first, second, dtype=3):
@@ -263,10 +263,13 @@ class GeneratedCases(Compared):
     def test_counts(self):
         self.same(list(cases.all_cases(1)) == self.every, True, 'deterministic')
         self.same(list(cases.all_cases(2)) == self.every, False, 'seeded')
-        self.same(1200 <= len(self.every) <= 1500, True, len(self.every))
-        for call, least in (('check', 550), ('run', 200), ('unpack', 150), ('lookup', 80),
-                            ('unpack_check', 40), ('listing', 20)):
+        self.same(1500 <= len(self.every) <= 1800, True, len(self.every))
+        for call, least in (('check', 800), ('run', 250), ('unpack', 150), ('lookup', 120),
+                            ('unpack_check', 60), ('listing', 20)):
             self.same(sum(c.call == call for c in self.every) >= least, True, call)
+        count = cases.GROUPS['by hand'][1]
+        by_hand = [list(cases.group('by hand', several, 1)) for several in (count, 10 * count)]
+        self.same(by_hand[0] == by_hand[1], True, 'no case by hand is left out')
 
     def test_every_number_is_reached(self):
         for call, numbers in (('check', (*range(13), 14)), ('run', (0, 2, 12, 13, 14, 15, 16)),
@@ -296,6 +299,7 @@ class GeneratedCases(Compared):
         table = case.args[0]
         _, (values, flags) = cases.expected(case)
         starts = [sum(prod(r.extents) for r in records[:k]) for k in range(len(records))]
+        wrong = []
         for k, record in enumerate(records):
             for element in range(prod(record.extents)):
                 at = starts[k] + element
@@ -303,8 +307,9 @@ class GeneratedCases(Compared):
                 found = model.lookup(table, k, element)
                 origin = starts[found.node] + found.element
                 want = (0, 0) if found.found == 2 else (values[origin], flags[origin])
-                good = (values[at], flags[at]) == want and (inside or flags[at] == 0)
-                self.same(good, True, (case.note, k, element))
+                if (values[at], flags[at]) != want or not (inside or flags[at] == 0):
+                    wrong.append((k, element))
+        self.same(wrong, [], case.note)
 
     def test_refusals_write_nothing(self):
         for case, number, third, buffers in self.outcomes:
@@ -332,8 +337,8 @@ class GeneratedCases(Compared):
             if case.call == 'run' and case.note.startswith('valid'):
                 table = case.args[0]
                 room = [0] * len(table)
-                self.same(model.unpack(pack(table), room), Answer(0, 0, len(table) // 17))
-                self.same(room, table, case.note)
+                answer = model.unpack(pack(table), room)
+                self.same((answer, room), (Answer(0, 0, len(table) // 17), table), case.note)
 
 
 if __name__ == '__main__':

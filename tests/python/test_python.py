@@ -1,5 +1,5 @@
 #!/usr/bin/env python3
-"""The Python module against the independent model, with numpy where it is there and without it.
+"""The Python module against the independent model, with numpy where it is there and without it; a case is the same with both.
 
 usage: test_python.py [COUNT] [SEED]     last line: 'N passed, 0 failed'
 """
@@ -13,26 +13,26 @@ from random import Random
 
 sys.dont_write_bytecode = True
 ROOT = os.path.dirname(os.path.dirname(os.path.dirname(os.path.abspath(__file__))))
-sys.path[:0] = [os.path.join(ROOT, part) for part in ('python', 'tests/model', 'tests/boundary')]
+sys.path[:0] = [os.path.join(ROOT, part) for part in ('python', 'tests/model', 'tests/boundary', 'tests/tools')]
 
 import cases  # noqa: E402
 import lookup_examples  # noqa: E402
 import model  # noqa: E402
 import run_cases  # noqa: E402
 import run_examples  # noqa: E402
-from tally import Tally  # noqa: E402
+from counting import Cases  # noqa: E402
 
 
 def modules():
-    """The module as it is imported here, and once more where numpy cannot be imported."""
-    first = importlib.import_module('lupetzarin')
-    yield 'with numpy' if first.numpy else 'numpy is not here', first
-    if first.numpy:
+    """The module as it is imported here and, where numpy is here, once more without it."""
+    found = [importlib.import_module('lupetzarin')]
+    if found[0].numpy:
         kept = sys.modules.pop('numpy')
         sys.modules['numpy'] = None
         del sys.modules['lupetzarin']
-        yield 'without numpy', importlib.import_module('lupetzarin')
+        found.append(importlib.import_module('lupetzarin'))
         sys.modules['numpy'] = kept
+    return found
 
 
 def told(lup, call, *arguments):
@@ -80,22 +80,40 @@ def test_plan(tally, lup, rng, table):
     tally.same('unpack_check', told(lup, lup.unpack_check, data), (number, rest) if number else len(rest))
 
 
-def test_module(tally, lup, rng, count):
+def test_examples(tally, lups, rng):
     for example in run_examples.EXAMPLES:
         if example.answer[0] != 14:
-            test_run(tally, lup, rng, example.table, example.values, example.flags)
+            with tally.case(example.name):
+                for lup in lups:
+                    test_run(tally, lup, rng, example.table, example.values, example.flags)
     for example in lookup_examples.EXAMPLES:
         number, place, kind, node, element = example.reply
         wanted = (number, place) if number else (node, element) if kind == 1 else None
-        tally.same(example.name, told(lup, lup.lookup, example.table, example.node, example.element), wanted)
-    for run in run_cases.random_runs(rng, count):
-        test_plan(tally, lup, rng, run.table)
-        test_run(tally, lup, rng, run.table, run.values, run.flags)
+        with tally.case(example.name):
+            for lup in lups:
+                tally.same(example.name, told(lup, lup.lookup, example.table, example.node, example.element), wanted)
+
+
+def test_plans(tally, lups, rng, count):
+    for run in run_cases.random_runs(Random(rng.randrange(2 ** 32)), count):
+        with tally.case(run.note):
+            for lup in lups:
+                test_plan(tally, lup, rng, run.table)
+                test_run(tally, lup, rng, run.table, run.values, run.flags)
+
+
+def test_refusals(tally, lups):
     for data in (b'', bytes.fromhex('010004'), bytes.fromhex('8000'), bytes.fromhex('0115'), bytes.fromhex('0100040A00')):
         answer = model.unpack(data, [0] * 4352)
-        tally.same(data.hex(), told(lup, lup.unpack, data), tuple(answer[:2]))
-    tally.same('a negative node', told(lup, lup.lookup, cases.const(2, 5), -1, 0), (17, 0))
-    tally.same('the words of a refusal', str(lup.Refused(8, 14)), 'refused 8 at node 14: shapes disagree, or over 1048576 elements')
+        with tally.case(('unpack', data.hex())):
+            for lup in lups:
+                tally.same(data.hex(), told(lup, lup.unpack, data), tuple(answer[:2]))
+    with tally.case('a negative node'):
+        for lup in lups:
+            tally.same('a negative node', told(lup, lup.lookup, cases.const(2, 5), -1, 0), (17, 0))
+    with tally.case('the words of a refusal'):
+        for lup in lups:
+            tally.same('the words of a refusal', str(lup.Refused(8, 14)), 'refused 8 at node 14: shapes disagree, or over 1048576 elements')
 
 
 def test_numpy(tally, lup):
@@ -105,22 +123,32 @@ def test_numpy(tally, lup):
     flags = lup.numpy.array([True, False])
     tally.same('flags that are bools', lup._held(flags, 'B').tolist(), [1, 0])
     tally.same('every other number', lup._held(numbers[::2], 'q').tolist(), [0, 2, 4])
-    for wrong, code, error in ((lup.numpy.array([1.5]), 'q', TypeError), (lup.numpy.array([256]), 'B', OverflowError)):
-        try:
-            lup._held(wrong, code)
-            tally.same('refused', False, error)
-        except error:
-            tally.same('refused', error, error)
+    return (lup.numpy.array([1.5]), 'q', TypeError), (lup.numpy.array([256]), 'B', OverflowError)
+
+
+def test_memory(tally, lups):
+    """The same of arrays and lists."""
+    for lup in lups:
+        numbers = array('q', range(6))
+        tally.same('no copy', lup._lent(lup._held(numbers, 'q')), numbers.buffer_info())
+        tally.same('another type', lup._held(array('i', [0, 1]), 'B').tolist(), [0, 1])
+        wrongs = test_numpy(tally, lup) if lup.numpy else ()
+        for wrong, code, error in (([1.5], 'q', TypeError), ([256], 'B', OverflowError), ([-1], 'B', OverflowError), *wrongs):
+            try:
+                tally.same(('refused', wrong), lup._held(wrong, code), error)
+            except error:
+                tally.same(('refused', wrong), error, error)
 
 
 def main():
     count = int(sys.argv[1]) if len(sys.argv) > 1 else 400
-    rng, tally = Random(int(sys.argv[2]) if len(sys.argv) > 2 else 5), Tally()
-    for note, lup in modules():
-        print(note)
-        test_module(tally, lup, rng, count)
-        if lup.numpy:
-            test_numpy(tally, lup)
+    rng, tally, lups = Random(int(sys.argv[2]) if len(sys.argv) > 2 else 5), Cases(), modules()
+    print('with numpy and without it' if lups[0].numpy else 'numpy is not here')
+    test_examples(tally, lups, rng)
+    test_plans(tally, lups, rng, count)
+    test_refusals(tally, lups)
+    with tally.case('memory that is handed over'):
+        test_memory(tally, lups)
     tally.finish()
 
 

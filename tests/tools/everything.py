@@ -22,5 +22,5 @@ def text():
 
 if __name__ == "__main__":
     if "--check" in sys.argv[1:]:
-        sys.exit(open(TARGET).read() != text())
+        sys.exit(open(TARGET).read() != text() and "%s is not what everything.py writes" % os.path.relpath(TARGET, ROOT))
     open(TARGET, "w").write(text())

@@ -22,8 +22,8 @@ sys.path[:0] = [os.path.join(ROOT, 'tests', part) for part in ('model', 'boundar
 import lookup_examples
 import model
 import run_examples
-from cases import (BIG, LARGE, apply, const, fresh_words, large, move, node, pack, param,
-                   reduce_node)
+from cases import (BIG, LARGE, apply, at_axis, const, fresh_words, large, move, node, pack, param,
+                   reduce_node, smallest)
 from model import (ADD, AND, CAST, CMPLT, CMPNE, EXPAND, FLIP, IDIV, LOAD, MAX, MOD, MUL, OR, PAD, PERMUTE,
                    RESHAPE, SHRINK, WHERE)
 
@@ -100,38 +100,47 @@ def scalar(slot, dtype, low, high, device=1):
 
 # ---------------------------------------------- every operation, and rule 3
 # "| op | words used | dtype of result |": a node of each operation after the nodes 0 to 2 of BASE, the row
-# derived of it, and some words that it does not use.
+# derived of it, and the words that it uses.
 
+ROW_A, ROW_B = (9, 10, 11, 12), (13, 14, 15, 16)
 BASE = param(0, I16, -4, 10, (2, 3)) + const(I16, 2) + const(BOOL, 1)
 BASE_ROWS = ((I16, 1, -4, 10, 2, 3), (I16, 0, 2, 2), (BOOL, 0, 1, 1))
 OPERATIONS = (
-    ('CONST', const(I32, 7), (I32, 0, 7, 7), (1, 3, 6, 16)),
-    ('PARAM', param(1, U8, 0, 255, (4,), 9), (U8, 9, 0, 255, 4), (1, 3, 13, 16)),
-    ('PERMUTE', move(PERMUTE, 0, (1, 0)), (I16, 1, -4, 10, 3, 2), (2, 8, 13, 16)),
-    ('FLIP', move(FLIP, 0, (0, 1)), (I16, 1, -4, 10, 2, 3), (2, 8, 13, 16)),
-    ('RESHAPE', move(RESHAPE, 0, (6,)), (I16, 1, -4, 10, 6), (2, 8, 13, 16)),
-    ('EXPAND', move(EXPAND, 0, (2, 3)), (I16, 1, -4, 10, 2, 3), (2, 8, 13, 16)),
-    ('PAD', move(PAD, 0, (4, 5), (1, 1)), (I16, 1, -4, 10, 4, 5), (2, 8)),
-    ('SHRINK', move(SHRINK, 0, (1, 1), (1, 0)), (I16, 1, -4, 10, 1, 1), (2, 8)),
-    ('CAST', cast(0, I32), (I32, 1, -4, 10, 2, 3), (2, 3, 5, 16)),
-    ('ADD', apply(ADD, 0, 1), (I16, 1, -2, 12, 2, 3), (3, 4, 16)),
-    ('MUL', apply(MUL, 0, 1), (I16, 1, -8, 20, 2, 3), (3, 4, 16)),
-    ('MAX', apply(MAX, 0, 1), (I16, 1, 2, 10, 2, 3), (3, 4, 16)),
-    ('IDIV', apply(IDIV, 0, 1), (I16, 1, -2, 5, 2, 3), (3, 4, 16)),
-    ('MOD', apply(MOD, 0, 1), (I16, 1, 0, 1, 2, 3), (3, 4, 16)),
-    ('CMPLT', apply(CMPLT, 0, 1), (BOOL, 1, 0, 1, 2, 3), (3, 4, 16)),
-    ('CMPNE', apply(CMPNE, 0, 1), (BOOL, 1, 0, 1, 2, 3), (3, 4, 16)),
-    ('AND', apply(AND, 2, 2), (BOOL, 0, 1, 1), (3, 4, 16)),
-    ('OR', apply(OR, 2, 2), (BOOL, 0, 1, 1), (3, 4, 16)),
-    ('WHERE', apply(WHERE, 2, 0, 1), (I16, 1, -4, 10, 2, 3), (4, 16)),
-    ('REDUCE', reduce_node(0, 0, (0, 1)), (I16, 1, -12, 30, 2, 1), (2, 4, 6, 8, 13, 16)),
-    ('LOAD', load(0, 9), (I16, 9, -4, 10, 2, 3), (2, 5, 7, 16)),
+    ('CONST', const(I32, 7), (I32, 0, 7, 7), (4, 5)),
+    ('PARAM', param(1, U8, 0, 255, (4,), 9), (U8, 9, 0, 255, 4), (4, 5, 6, 7, 8, *ROW_A)),
+    ('PERMUTE', move(PERMUTE, 0, (1, 0)), (I16, 1, -4, 10, 3, 2), (1, *ROW_A)),
+    ('FLIP', move(FLIP, 0, (0, 1)), (I16, 1, -4, 10, 2, 3), (1, *ROW_A)),
+    ('RESHAPE', move(RESHAPE, 0, (6,)), (I16, 1, -4, 10, 6), (1, *ROW_A)),
+    ('EXPAND', move(EXPAND, 0, (2, 3)), (I16, 1, -4, 10, 2, 3), (1, *ROW_A)),
+    ('PAD', move(PAD, 0, (4, 5), (1, 1)), (I16, 1, -4, 10, 4, 5), (1, *ROW_A, *ROW_B)),
+    ('SHRINK', move(SHRINK, 0, (1, 1), (1, 0)), (I16, 1, -4, 10, 1, 1), (1, *ROW_A, *ROW_B)),
+    ('CAST', cast(0, I32), (I32, 1, -4, 10, 2, 3), (1, 4)),
+    ('ADD', apply(ADD, 0, 1), (I16, 1, -2, 12, 2, 3), (1, 2)),
+    ('MUL', apply(MUL, 0, 1), (I16, 1, -8, 20, 2, 3), (1, 2)),
+    ('MAX', apply(MAX, 0, 1), (I16, 1, 2, 10, 2, 3), (1, 2)),
+    ('IDIV', apply(IDIV, 0, 1), (I16, 1, -2, 5, 2, 3), (1, 2)),
+    ('MOD', apply(MOD, 0, 1), (I16, 1, 0, 1, 2, 3), (1, 2)),
+    ('CMPLT', apply(CMPLT, 0, 1), (BOOL, 1, 0, 1, 2, 3), (1, 2)),
+    ('CMPNE', apply(CMPNE, 0, 1), (BOOL, 1, 0, 1, 2, 3), (1, 2)),
+    ('AND', apply(AND, 2, 2), (BOOL, 0, 1, 1), (1, 2)),
+    ('OR', apply(OR, 2, 2), (BOOL, 0, 1, 1), (1, 2)),
+    ('WHERE', apply(WHERE, 2, 0, 1), (I16, 1, -4, 10, 2, 3), (1, 2, 3)),
+    ('REDUCE', reduce_node(0, 0, (0, 1)), (I16, 1, -12, 30, 2, 1), (1, 5, *ROW_A)),
+    ('LOAD', load(0, 9), (I16, 9, -4, 10, 2, 3), (1, 6)),
 )
 BY_OPERATION = [accepted(f'{name} is accepted', BASE + words, *BASE_ROWS, row)
                 for name, words, row, _ in OPERATIONS]
+# The same without axes, on a CONST of 1 (a bool for AND, OR and WHERE), every other word 0 but for the device that
+# PARAM and LOAD name.
+ONE = (I16, 0, 1, 1)
+SMALLEST_ROWS = ((BOOL, 0, 0, 0), (BOOL, 9, 0, 0), *[ONE] * 6, (BOOL, 0, 1, 1), (I16, 0, 2, 2), *[ONE] * 3,
+                 (I16, 0, 0, 0), *[(BOOL, 0, 0, 0)] * 2, *[(BOOL, 0, 1, 1)] * 3, ONE, (I16, 9, 1, 1))
+BY_OPERATION += [accepted(f'{OPERATIONS[op][0]} of no axes is accepted', smallest(op, {}),
+                          (BOOL, 0, 1, 1) if op in (AND, OR, WHERE) else ONE, row)
+                 for op, row in enumerate(SMALLEST_ROWS)]
 # 3 "unused word not zero"
-UNUSED = [refused(f'{name} with word {k} not zero', 3, 3, BASE + changed(words, (k, 1)))
-          for name, words, _, unused in OPERATIONS for k in unused]
+UNUSED = [refused(f'{name} with word {k} not zero', 3, 1, smallest(op, {k: 1}))
+          for op, (name, _, _, used) in enumerate(OPERATIONS) for k in range(1, 17) if k not in used]
 UNUSED += [
     refused('unused word negative', 3, 0, changed(const(I16, 5), (9, -1))),
     refused('unused word least', 3, 0, changed(const(I16, 5), (16, -BIG))),
@@ -174,9 +183,11 @@ BOUNDS = (
     # "AND [min(a,b),min(A,B)], OR [max(a,b),max(A,B)]"
     (AND, BOOL, (0, 1), (1, 1), (0, 1)),
     (AND, BOOL, (0, 0), (0, 1), (0, 0)),
+    (AND, BOOL, (1, 1), (0, 1), (0, 1)),
     (AND, BOOL, (1, 1), (1, 1), (1, 1)),
     (OR, BOOL, (0, 1), (1, 1), (1, 1)),
     (OR, BOOL, (0, 0), (0, 1), (0, 1)),
+    (OR, BOOL, (1, 1), (0, 0), (1, 1)),
     (OR, BOOL, (0, 0), (0, 0), (0, 0)),
     # "CMPLT is [1,1] if A<b, [0,0] if a≥B, else [0,1]."; "● CMPLT of [4,9] and [0,4]: [0,0]."
     (CMPLT, I16, (4, 9), (0, 4), (0, 0)),
@@ -217,6 +228,9 @@ OTHER_BOUNDS = [
              + scalar(2, I16, -32768, 32767) + scalar(3, I32, -2147483648, 2147483647),
              (0, 1, 0, 1), (1, 1, 0, 255), (2, 1, -32768, 32767), (3, 1, -2147483648, 2147483647)),
     accepted('PARAM with low equal to high', scalar(0, I16, -3, -3), (I16, 1, -3, -3)),
+    # "movement (2–7) and LOAD, the source's": PAD too, whose new cells are gaps
+    accepted('PAD of numbers above 0', param(0, I16, 3, 9, (2,)) + move(PAD, 0, (4,), (1,)), (I16, 1, 3, 9, 2),
+             (I16, 1, 3, 9, 4)),
     # "WHERE [min(b,c),max(B,C)]", whatever the condition's bounds
     accepted('WHERE joins both sides', const(BOOL, 1) + scalar(0, I16, -3, 4) + scalar(1, I16, 2, 9)
              + apply(WHERE, 0, 1, 2),
@@ -238,6 +252,12 @@ OTHER_BOUNDS = [
              (I16, 1, -8, 20, 3, 1)),
     accepted('sum over no axis', THREE_BY_TWO + reduce_node(0, 0, (0, 0)), THREE_BY_TWO_ROW,
              (I16, 1, -4, 10, 3, 2)),
+    accepted('sum over one or two axes of four', param(0, I16, -4, 10, (2, 3, 5, 7))
+             + sum((reduce_node(0, 0, at_axis(axis, 1)) for axis in range(4)), [])
+             + reduce_node(0, 0, (1, 0, 1, 0)) + reduce_node(0, 0, (0, 1, 0, 1)),
+             (I16, 1, -4, 10, 2, 3, 5, 7), (I16, 1, -8, 20, 1, 3, 5, 7), (I16, 1, -12, 30, 2, 1, 5, 7),
+             (I16, 1, -20, 50, 2, 3, 1, 7), (I16, 1, -28, 70, 2, 3, 5, 1), (I16, 1, -40, 100, 1, 3, 1, 7),
+             (I16, 1, -84, 210, 2, 1, 5, 1)),
     accepted('sum of a single number', const(I16, 5) + reduce_node(0, 0, ()), (I16, 0, 5, 5), (I16, 0, 5, 5)),
     accepted('sum of 1048576', param(0, I32, -2048, 2047, (1024, 1024)) + reduce_node(0, 0, (1, 1)),
              (I32, 1, -2048, 2047, 1024, 1024), (I32, 1, -2147483648, 2146435072, 1, 1)),
@@ -253,6 +273,8 @@ OTHER_BOUNDS = [
 
 TWO_BY_THREE = param(0, I16, -4, 10, (2, 3))
 ROW_2X3 = (I16, 1, -4, 10, 2, 3)
+FOUR_TWOS = param(0, I16, -4, 10, (2, 2, 2, 2))
+ROW_2222 = (I16, 1, -4, 10, 2, 2, 2, 2)
 SHAPES = [
     # "Rank is 0 to 4. A shape row is rank extents of 1..1048576, then zeros."
     *(accepted(f'PARAM of shape {shape}', param(0, I16, -4, 10, shape), (I16, 1, -4, 10, *shape))
@@ -267,6 +289,8 @@ SHAPES = [
     # "RESHAPE: equal element counts."
     accepted('RESHAPE to rank 4', TWO_BY_THREE + move(RESHAPE, 0, (1, 3, 1, 2)), ROW_2X3,
              (I16, 1, -4, 10, 1, 3, 1, 2)),
+    accepted('RESHAPE of four axes and to four', FOUR_TWOS + move(RESHAPE, 0, (4, 4)) + move(RESHAPE, 1, (2, 2, 2, 2)),
+             ROW_2222, (I16, 1, -4, 10, 4, 4), ROW_2222),
     accepted('RESHAPE of one element to rank 0', param(0, I16, -4, 10, (1, 1)) + move(RESHAPE, 0, ()),
              (I16, 1, -4, 10, 1, 1), (I16, 1, -4, 10)),
     accepted('RESHAPE of rank 0', const(I16, 5) + move(RESHAPE, 0, (1, 1, 1)), (I16, 0, 5, 5),
@@ -288,6 +312,17 @@ SHAPES = [
             TWO_BY_THREE + move(SHRINK, 0, (1, 2), (2, 1))),
     refused("SHRINK with o+s' one more than s, last axis", 8, 1,
             TWO_BY_THREE + move(SHRINK, 0, (1, 2), (1, 2))),
+    # the same on each axis of four alone
+    accepted("PAD with o+s equal to s' on four axes", FOUR_TWOS + move(PAD, 0, (3, 3, 3, 3), (1, 1, 1, 1)),
+             ROW_2222, (I16, 1, -4, 10, 3, 3, 3, 3)),
+    accepted("SHRINK with o+s' equal to s on four axes", FOUR_TWOS + move(SHRINK, 0, (1, 1, 1, 1), (1, 1, 1, 1)),
+             ROW_2222, (I16, 1, -4, 10, 1, 1, 1, 1)),
+    *(refused(f"PAD with o+s one more than s' on axis {axis} alone", 8, 1,
+              FOUR_TWOS + move(PAD, 0, (3, 3, 3, 3), at_axis(axis, 2, 1))) for axis in range(4)),
+    *(refused(f"SHRINK with o+s' one more than s on axis {axis} alone", 8, 1,
+              FOUR_TWOS + move(SHRINK, 0, at_axis(axis, 2, 1), (1, 1, 1, 1))) for axis in range(4)),
+    *(refused(f'EXPAND of 2 to 4 on axis {axis} alone', 8, 1,
+              FOUR_TWOS + move(EXPAND, 0, at_axis(axis, 4, 2))) for axis in range(4)),
     # "REDUCE: flagged axes become 1; rank stays." is among the bounds of sums
 ]
 # "Binary and WHERE: right-aligned; each axis equal or 1; the larger wins."
@@ -297,6 +332,9 @@ BROADCASTS = (((2, 3), (3,), (2, 3)), ((3,), (2, 3), (2, 3)), ((2, 1), (3,), (2,
 SHAPES += [accepted(f'broadcast of {first} and {second}', large(first, second) + apply(MUL, 0, 1),
                     (I32, 1, 0, 1, *first), (I32, 1, 0, 1, *second), (I32, 1, 0, 1, *result))
            for first, second, result in BROADCASTS]
+SHAPES += [accepted(f'{OPERATIONS[op][0]} of 2x1 and 3', param(0, BOOL, 0, 1, (2, 1)) + param(1, BOOL, 0, 1, (3,))
+                    + apply(op, 0, 1), (BOOL, 1, 0, 1, 2, 1), (BOOL, 1, 0, 1, 3), (BOOL, 1, 0, 1, 2, 3))
+           for op in (AND, OR)]
 SHAPES += [accepted('WHERE of three shapes', param(0, BOOL, 0, 1, (2, 1, 1)) + param(1, I16, 0, 1, (3, 1))
                     + param(2, I16, 0, 1, (4,)) + apply(WHERE, 0, 1, 2),
                     (BOOL, 1, 0, 1, 2, 1, 1), (I16, 1, 0, 1, 3, 1), (I16, 1, 0, 1, 4),
@@ -358,6 +396,8 @@ SOURCES = [
     refused('third source not earlier', 4, 2, const(BOOL, 1) + const(I16, 5) + apply(WHERE, 0, 1, 2)),
     refused('third source negative', 4, 2, const(BOOL, 1) + const(I16, 5) + apply(WHERE, 0, 1, -1)),
     refused('condition not earlier', 4, 2, const(BOOL, 1) + const(I16, 5) + apply(WHERE, 2, 1, 1)),
+    *(refused(f'{name} as its own source {k}', 4, 1, smallest(op, {k: 1}))
+      for op, (name, _, _, used) in enumerate(OPERATIONS) for k in used if k < 4),
 ]
 DTYPES = [
     # 5 "word 4 used and not 0..3"
@@ -440,7 +480,11 @@ OFFSET_ROWS = ((-1, 0), (0, -1), (LARGE + 1, 0), (0, LARGE + 1), (0, 0, 1), (0, 
                (BIG - 1, 0), (0, -BIG), (2 ** 32, 0))
 # "shape rows as above": "rank extents of 1..1048576, then zeros"
 SHAPE_ROWS = ((0, 6), (2, 0, 3), (0, 0, 0, 6), (2, 3, 0, 1), (-1, 3), (2, -3), (LARGE + 1,), (6, LARGE + 1),
-              (BIG - 1,), (6, 1, 1, -BIG), (2 ** 32 + 6,))
+              (BIG - 1,), (6, 1, 1, -BIG), (2 ** 32 + 6,), (2, 3, -1), (2, 3, LARGE + 1), (2, 3, 1, LARGE + 1))
+# The same rows where one axis of four is wrong.
+PERMUTE_ROWS_4 = ((4, 1, 2, 3), (0, -1, 2, 3), (0, 1, 0, 3), (0, 1, 2, 0))
+FLAG_ROWS_4 = ((-1, 1, 1, 1), (0, 7, 0, 0), (1, 1, 2, 1), (0, 0, 0, 7))
+OFFSET_ROWS_4 = ((-1, 0, 0, 0), (0, LARGE + 1, 0, 0), (0, 0, -1, 0), (0, 0, 0, LARGE + 1))
 ROWS = [
     *(refused(f'PERMUTE row {row}', 7, 1, TWO_BY_THREE + move(PERMUTE, 0, row)) for row in PERMUTE_ROWS),
     *(refused(f'FLIP row {row}', 7, 1, TWO_BY_THREE + move(FLIP, 0, row)) for row in FLAG_ROWS),
@@ -451,8 +495,18 @@ ROWS = [
     *(refused(f'PARAM shape row {row}', 7, 0, param(0, I16, -4, 10, row)) for row in SHAPE_ROWS),
     *(refused(f'{OPERATIONS[op][0]} shape row {row}', 7, 1, TWO_BY_THREE + move(op, 0, row))
       for op in (RESHAPE, EXPAND, PAD, SHRINK) for row in SHAPE_ROWS[:7]),
-    refused('PERMUTE of rank 0 with a row', 7, 1, const(I16, 5) + move(PERMUTE, 0, (1,))),
-    refused('FLIP of rank 0 with a flag', 7, 1, const(I16, 5) + move(FLIP, 0, (1,))),
+    *(refused(f'PERMUTE row {row}', 7, 1, FOUR_TWOS + move(PERMUTE, 0, row)) for row in PERMUTE_ROWS_4),
+    *(refused(f'FLIP row {row}', 7, 1, FOUR_TWOS + move(FLIP, 0, row)) for row in FLAG_ROWS_4),
+    *(refused(f'REDUCE row {row}', 7, 1, FOUR_TWOS + reduce_node(0, 1, row)) for row in FLAG_ROWS_4),
+    *(refused(f'{OPERATIONS[op][0]} offsets {row}', 7, 1, FOUR_TWOS + move(op, 0, (2, 2, 2, 2), row))
+      for op in (PAD, SHRINK) for row in OFFSET_ROWS_4),
+    # "all with zeros after": the first word past the source's rank
+    *(refused(f'{name} of rank {rank} with a word past it', 7, 1, param(0, I16, 0, 1, (2, 2, 2)[:rank]) + words)
+      for rank, zeros in ((0, ()), (1, (0,)), (3, (0, 0, 0)))
+      for name, words in (('PERMUTE', move(PERMUTE, 0, (*range(rank), 1))), ('FLIP', move(FLIP, 0, (*zeros, 1))),
+                          ('REDUCE', reduce_node(0, 1, (*zeros, 1))),
+                          ('PAD', move(PAD, 0, (2, 2, 2)[:rank], (*zeros, 1))),
+                          ('SHRINK', move(SHRINK, 0, (2, 2, 2)[:rank], (*zeros, 1))))),
     # a row that is measured by the source's rank is 7, a shape row of another rank is 8
     refused('PAD to rank 2 with an offset past the rank', 7, 1,
             param(0, I16, 0, 1, (2,)) + move(PAD, 0, (3, 3), (1, 1))),
@@ -462,6 +516,8 @@ ROWS = [
 
 # ------------------------------------------------------------- rules 8 to 12
 
+TWO_SOURCES = ((ADD, I16), (MUL, I16), (MAX, I16), (IDIV, I16), (MOD, I16), (CMPLT, I16), (CMPNE, I16),
+               (AND, BOOL), (OR, BOOL))
 SHAPES_DISAGREE = [
     # 8 "shapes disagree"
     refused('RESHAPE to one element more', 8, 1, TWO_BY_THREE + move(RESHAPE, 0, (7,))),
@@ -482,6 +538,10 @@ SHAPES_DISAGREE = [
     *(refused(f'MUL of {first} and {second}', 8, 2, large(first, second) + apply(MUL, 0, 1))
       for first, second in (((2, 3), (2,)), ((2, 3), (3, 2)), ((2,), (3,)), ((2, 1, 3), (2, 2)),
                             ((3, 1), (2, 1)))),
+    *(refused(f'MUL of axis {axis} of four alone', 8, 2, large((2, 2, 2, 2), at_axis(axis, 3, 2)) + apply(MUL, 0, 1))
+      for axis in range(4)),
+    *(refused(f'{OPERATIONS[op][0]} of 2 and 3', 8, 2, param(0, dtype, 1, 1, (2,)) + param(1, dtype, 1, 1, (3,))
+              + apply(op, 0, 1)) for op, dtype in TWO_SOURCES),
     *(refused(f'WHERE of {shapes}', 8, 3, param(0, BOOL, 0, 1, shapes[0]) + param(1, I16, 0, 1, shapes[1])
               + param(2, I16, 0, 1, shapes[2]) + apply(WHERE, 0, 1, 2))
       for shapes in (((2,), (3,), (1,)), ((2,), (1,), (3,)), ((1,), (2,), (3,)), ((2, 1), (3,), (3, 1)))),
@@ -489,19 +549,19 @@ SHAPES_DISAGREE = [
     *(refused(f'PARAM of shape {shape}', 8, 0, param(0, I16, 0, 1, shape))
       for shape in ((1024, 1025), (LARGE, 2), (2, 1, 1, LARGE), (LARGE,) * 4, (17, 61681),
                     (65536, 65536, 65536, 65536))),
-    refused('EXPAND over 1048576', 8, 1, large((1, 1)) + move(EXPAND, 0, (1024, 1025))),
-    refused('PAD over 1048576', 8, 1, large((1, 1)) + move(PAD, 0, (1024, 1025), (0, 0))),
-    refused('MUL over 1048576', 8, 2, large((1024, 1), (1025,)) + apply(MUL, 0, 1)),
-    refused('WHERE over 1048576', 8, 3, param(0, BOOL, 0, 1, (2, 1, 1)) + param(1, I32, 0, 1, (512, 1))
-            + param(2, I32, 0, 1, (1025,)) + apply(WHERE, 0, 1, 2)),
+    # 17 times 61681 is 1048577
+    refused('EXPAND over 1048576', 8, 1, large((1, 1)) + move(EXPAND, 0, (17, 61681))),
+    refused('PAD over 1048576', 8, 1, large((1, 1)) + move(PAD, 0, (17, 61681), (0, 0))),
+    refused('MUL over 1048576', 8, 2, large((17, 1), (61681,)) + apply(MUL, 0, 1)),
+    refused('WHERE over 1048576', 8, 3, param(0, BOOL, 0, 1, (17, 1)) + param(1, I32, 0, 1, (61681,))
+            + param(2, I32, 0, 1, ()) + apply(WHERE, 0, 1, 2)),
 ]
 CONDITION, FIRST, SECOND = scalar(0, BOOL, 0, 1, 1), scalar(1, I16, 0, 1, 1), scalar(2, I16, 0, 1, 1)
 TWO_DEVICES = [
     # 9 "two devices"
     *(refused(f'{OPERATIONS[op][0]} of devices 1 and 2', 9, 2,
               scalar(0, dtype, 1, 1, 1) + scalar(1, dtype, 1, 1, 2) + apply(op, 0, 1))
-      for op, dtype in ((ADD, I16), (MUL, I16), (MAX, I16), (IDIV, I16), (MOD, I16), (CMPLT, I16),
-                        (CMPNE, I16), (AND, BOOL), (OR, BOOL))),
+      for op, dtype in TWO_SOURCES),
     refused('WHERE with another device of the condition', 9, 3,
             changed(CONDITION, (6, 2)) + FIRST + SECOND + apply(WHERE, 0, 1, 2)),
     refused('WHERE with another device of the second source', 9, 3,
@@ -530,6 +590,7 @@ LEAVES = [
     # "● [−20000,20000] to itself: refused 11."
     refused('i16 [−20000,20000] added to itself', 11, 1, scalar(0, I16, -20000, 20000) + apply(ADD, 0, 0)),
     refused('ADD one above', 11, 2, scalar(0, U8, 0, 6) + const(U8, 250) + apply(ADD, 0, 1)),
+    refused('ADD of i32 one above', 11, 2, scalar(0, I32, 0, 2147483647) + const(I32, 1) + apply(ADD, 0, 1)),
     refused('ADD one below', 11, 2, scalar(0, I16, -2, 0) + const(I16, -32767) + apply(ADD, 0, 1)),
     # "● u8 [0,255] times 2: refused 11."
     refused('u8 [0,255] times 2', 11, 2, scalar(0, U8, 0, 255) + const(U8, 2) + apply(MUL, 0, 1)),
@@ -752,6 +813,7 @@ BYTES_REFUSED = [
     unpack_refused('operation 21', '01 15', 24, 1),
     unpack_refused('operation 127', '01 7F 00 00', 24, 1),
     unpack_refused('operation 149 in two bytes', '01 95 01', 24, 1),
+    unpack_refused('operation 128, whose low seven bits are CONST', '01 80 01 04 0A', 24, 1),
     unpack_refused('operation 2^35 − 1', '01 FF FF FF FF 7F', 24, 1),
     unpack_refused('operation 21 of the second node', '02 00 04 D8 04 15', 24, 5),
 ]
@@ -762,7 +824,7 @@ BYTE_ORDER = [
     unpack_refused('21 of the count before 14', '81 00', 21, 0, room=0),
     unpack_refused('21 of the count before 23', '80 00', 21, 0),
     unpack_refused('23 before 14, count 0', '00', 23, 0, room=0),
-    unpack_refused('23 before 14, count 257', '81 02', 23, 0, room=4352),
+    unpack_refused('23 before 14, count 257', '81 02', 23, 0, room=0),
     unpack_refused('23 before 20', '81 02 00', 23, 0),
     unpack_refused('23 before 21', '00 80 00', 23, 0),
     unpack_refused('23 before 22', '00 00', 23, 0),

@@ -29,3 +29,6 @@ pub mod Table27
 pub mod Table28
 pub mod Table29
 pub mod Table30
+pub mod Table31
+pub mod Table32
+pub mod Table33

@@ -7,7 +7,41 @@ use Rattle.agreement.specs.Cases.{words, nodes, times, freshFrom, flagsF
 abbrev pub table29 : List Case
 table29 =
     -- check by hand
-    toCheck (nodes ([] ∷ (0 ∷ 0 ∷ 0 ∷ 0 ∷ 0 ∷ 2 ∷ []) ∷ (2 ∷ 0 ∷ 0 ∷ 0 ∷ 0 ∷ 0 ∷ 2 ∷ 0 ∷ 2 ∷ []) ∷ (0 ∷ 0 ∷ 0 ∷ 0 ∷ 2 ∷ []) ∷ (0 ∷ 0 ∷ 0 ∷ 0 ∷ 2 ∷ 510 ∷ []) ∷ (2 ∷ 0 ∷ 0 ∷ 0 ∷ 2 ∷ 2 ∷ 2 ∷ 0 ∷ 510 ∷ []) ∷ (0 ∷ 0 ∷ 0 ∷ 0 ∷ 4 ∷ 65535 ∷ []) ∷ (0 ∷ 0 ∷ 0 ∷ 0 ∷ 4 ∷ 65534 ∷ []) ∷ (2 ∷ 0 ∷ 0 ∷ 0 ∷ 4 ∷ 4 ∷ 2 ∷ 65535 ∷ 65534 ∷ []) ∷ (0 ∷ 0 ∷ 0 ∷ 0 ∷ 6 ∷ 4294967295 ∷ []) ∷ (0 ∷ 0 ∷ 0 ∷ 0 ∷ 6 ∷ 4294967294 ∷ []) ∷ (2 ∷ 0 ∷ 0 ∷ 0 ∷ 6 ∷ 6 ∷ 2 ∷ 4294967295 ∷ 4294967294 ∷ []) ∷ [])) 96 gives leaves (answer 0 0 0) (words (0 ∷ 0 ∷ 0 ∷ 0 ∷ 0 ∷ 0 ∷ 0 ∷ 0 ∷ 0 ∷ 0 ∷ 2 ∷ 2 ∷ 0 ∷ 0 ∷ 0 ∷ 0 ∷ 0 ∷ 2 ∷ 0 ∷ 2 ∷ 0 ∷ 0 ∷ 0 ∷ 0 ∷ 2 ∷ 0 ∷ 0 ∷ 0 ∷ 0 ∷ 0 ∷ 0 ∷ 0 ∷ 2 ∷ 0 ∷ 510 ∷ 510 ∷ 0 ∷ 0 ∷ 0 ∷ 0 ∷ 2 ∷ 2 ∷ 0 ∷ 510 ∷ 0 ∷ 0 ∷ 0 ∷ 0 ∷ 4 ∷ 0 ∷ 65535 ∷ 65535 ∷ 0 ∷ 0 ∷ 0 ∷ 0 ∷ 4 ∷ 0 ∷ 65534 ∷ 65534 ∷ 0 ∷ 0 ∷ 0 ∷ 0 ∷ 4 ∷ 2 ∷ 65535 ∷ 65534 ∷ 0 ∷ 0 ∷ 0 ∷ 0 ∷ 6 ∷ 0 ∷ 4294967295 ∷ 4294967295 ∷ 0 ∷ 0 ∷ 0 ∷ 0 ∷ 6 ∷ 0 ∷ 4294967294 ∷ 4294967294 ∷ 0 ∷ 0 ∷ 0 ∷ 0 ∷ 6 ∷ 2 ∷ 4294967295 ∷ 4294967294 ∷ 0 ∷ 0 ∷ 0 ∷ 0 ∷ []))
+    toCheck (nodes ((0 ∷ 0 ∷ 0 ∷ 0 ∷ 0 ∷ 1 ∷ []) ∷ [])) 8 gives leaves (answer 11 0 0) (freshFrom 0 8)
+    -- check by hand
+    ∷ toCheck (nodes ((0 ∷ 0 ∷ 0 ∷ 0 ∷ 0 ∷ 4 ∷ []) ∷ [])) 8 gives leaves (answer 11 0 0) (freshFrom 0 8)
+    -- check by hand
+    ∷ toCheck (nodes ((2 ∷ 0 ∷ 0 ∷ 0 ∷ 0 ∷ 0 ∷ 2 ∷ 1 ∷ 2 ∷ []) ∷ [])) 8 gives leaves (answer 11 0 0) (freshFrom 0 8)
+    -- check by hand
+    ∷ toCheck (nodes ((2 ∷ 0 ∷ 0 ∷ 0 ∷ 0 ∷ 0 ∷ 2 ∷ 0 ∷ 4 ∷ []) ∷ [])) 8 gives leaves (answer 11 0 0) (freshFrom 0 8)
+    -- check by hand
+    ∷ toCheck (nodes ((0 ∷ 0 ∷ 0 ∷ 0 ∷ 2 ∷ 1 ∷ []) ∷ [])) 8 gives leaves (answer 11 0 0) (freshFrom 0 8)
+    -- check by hand
+    ∷ toCheck (nodes ((0 ∷ 0 ∷ 0 ∷ 0 ∷ 2 ∷ 512 ∷ []) ∷ [])) 8 gives leaves (answer 11 0 0) (freshFrom 0 8)
+    -- check by hand
+    ∷ toCheck (nodes ((2 ∷ 0 ∷ 0 ∷ 0 ∷ 2 ∷ 0 ∷ 2 ∷ 1 ∷ 510 ∷ []) ∷ [])) 8 gives leaves (answer 11 0 0) (freshFrom 0 8)
+    -- check by hand
+    ∷ toCheck (nodes ((2 ∷ 0 ∷ 0 ∷ 0 ∷ 2 ∷ 0 ∷ 2 ∷ 0 ∷ 512 ∷ []) ∷ [])) 8 gives leaves (answer 11 0 0) (freshFrom 0 8)
+    -- check by hand
+    ∷ toCheck (nodes ((0 ∷ 0 ∷ 0 ∷ 0 ∷ 4 ∷ 65537 ∷ []) ∷ [])) 8 gives leaves (answer 11 0 0) (freshFrom 0 8)
+    -- check by hand
+    ∷ toCheck (nodes ((0 ∷ 0 ∷ 0 ∷ 0 ∷ 4 ∷ 65536 ∷ []) ∷ [])) 8 gives leaves (answer 11 0 0) (freshFrom 0 8)
+    -- check by hand
+    ∷ toCheck (nodes ((2 ∷ 0 ∷ 0 ∷ 0 ∷ 4 ∷ 0 ∷ 2 ∷ 65537 ∷ 65534 ∷ []) ∷ [])) 8 gives leaves (answer 11 0 0) (freshFrom 0 8)
+    -- check by hand
+    ∷ toCheck (nodes ((2 ∷ 0 ∷ 0 ∷ 0 ∷ 4 ∷ 0 ∷ 2 ∷ 65535 ∷ 65536 ∷ []) ∷ [])) 8 gives leaves (answer 11 0 0) (freshFrom 0 8)
+    -- check by hand
+    ∷ toCheck (nodes ((0 ∷ 0 ∷ 0 ∷ 0 ∷ 6 ∷ 4294967297 ∷ []) ∷ [])) 8 gives leaves (answer 11 0 0) (freshFrom 0 8)
+    -- check by hand
+    ∷ toCheck (nodes ((0 ∷ 0 ∷ 0 ∷ 0 ∷ 6 ∷ 4294967296 ∷ []) ∷ [])) 8 gives leaves (answer 11 0 0) (freshFrom 0 8)
+    -- check by hand
+    ∷ toCheck (nodes ((2 ∷ 0 ∷ 0 ∷ 0 ∷ 6 ∷ 0 ∷ 2 ∷ 4294967297 ∷ 4294967294 ∷ []) ∷ [])) 8 gives leaves (answer 11 0 0) (freshFrom 0 8)
+    -- check by hand
+    ∷ toCheck (nodes ((2 ∷ 0 ∷ 0 ∷ 0 ∷ 6 ∷ 0 ∷ 2 ∷ 4294967295 ∷ 4294967296 ∷ []) ∷ [])) 8 gives leaves (answer 11 0 0) (freshFrom 0 8)
+    -- check by hand
+    ∷ toCheck (nodes ([] ∷ (0 ∷ 0 ∷ 0 ∷ 0 ∷ 0 ∷ 2 ∷ []) ∷ (2 ∷ 0 ∷ 0 ∷ 0 ∷ 0 ∷ 0 ∷ 2 ∷ 0 ∷ 2 ∷ []) ∷ (0 ∷ 0 ∷ 0 ∷ 0 ∷ 2 ∷ []) ∷ (0 ∷ 0 ∷ 0 ∷ 0 ∷ 2 ∷ 510 ∷ []) ∷ (2 ∷ 0 ∷ 0 ∷ 0 ∷ 2 ∷ 2 ∷ 2 ∷ 0 ∷ 510 ∷ []) ∷ (0 ∷ 0 ∷ 0 ∷ 0 ∷ 4 ∷ 65535 ∷ []) ∷ (0 ∷ 0 ∷ 0 ∷ 0 ∷ 4 ∷ 65534 ∷ []) ∷ (2 ∷ 0 ∷ 0 ∷ 0 ∷ 4 ∷ 4 ∷ 2 ∷ 65535 ∷ 65534 ∷ []) ∷ (0 ∷ 0 ∷ 0 ∷ 0 ∷ 6 ∷ 4294967295 ∷ []) ∷ (0 ∷ 0 ∷ 0 ∷ 0 ∷ 6 ∷ 4294967294 ∷ []) ∷ (2 ∷ 0 ∷ 0 ∷ 0 ∷ 6 ∷ 6 ∷ 2 ∷ 4294967295 ∷ 4294967294 ∷ []) ∷ [])) 96 gives leaves (answer 0 0 0) (words (0 ∷ 0 ∷ 0 ∷ 0 ∷ 0 ∷ 0 ∷ 0 ∷ 0 ∷ 0 ∷ 0 ∷ 2 ∷ 2 ∷ 0 ∷ 0 ∷ 0 ∷ 0 ∷ 0 ∷ 2 ∷ 0 ∷ 2 ∷ 0 ∷ 0 ∷ 0 ∷ 0 ∷ 2 ∷ 0 ∷ 0 ∷ 0 ∷ 0 ∷ 0 ∷ 0 ∷ 0 ∷ 2 ∷ 0 ∷ 510 ∷ 510 ∷ 0 ∷ 0 ∷ 0 ∷ 0 ∷ 2 ∷ 2 ∷ 0 ∷ 510 ∷ 0 ∷ 0 ∷ 0 ∷ 0 ∷ 4 ∷ 0 ∷ 65535 ∷ 65535 ∷ 0 ∷ 0 ∷ 0 ∷ 0 ∷ 4 ∷ 0 ∷ 65534 ∷ 65534 ∷ 0 ∷ 0 ∷ 0 ∷ 0 ∷ 4 ∷ 2 ∷ 65535 ∷ 65534 ∷ 0 ∷ 0 ∷ 0 ∷ 0 ∷ 6 ∷ 0 ∷ 4294967295 ∷ 4294967295 ∷ 0 ∷ 0 ∷ 0 ∷ 0 ∷ 6 ∷ 0 ∷ 4294967294 ∷ 4294967294 ∷ 0 ∷ 0 ∷ 0 ∷ 0 ∷ 6 ∷ 2 ∷ 4294967295 ∷ 4294967294 ∷ 0 ∷ 0 ∷ 0 ∷ 0 ∷ []))
+    -- check by hand
+    ∷ toCheck (nodes ((2 ∷ 0 ∷ 0 ∷ 0 ∷ 6 ∷ 0 ∷ 1 ∷ 7 ∷ 20 ∷ 4 ∷ 6 ∷ []) ∷ [])) 8 gives leaves (answer 7 0 0) (freshFrom 0 8)
     -- check by hand
     ∷ toCheck (nodes ((2 ∷ 0 ∷ 0 ∷ 0 ∷ 6 ∷ 0 ∷ 0 ∷ 7 ∷ 20 ∷ 4 ∷ 6 ∷ []) ∷ [])) 8 gives leaves (answer 7 0 0) (freshFrom 0 8)
     -- check by hand
@@ -16,6 +50,8 @@ table29 =
     ∷ toCheck (nodes ((2 ∷ 0 ∷ 0 ∷ 0 ∷ 6 ∷ 0 ∷ 510 ∷ 7 ∷ 20 ∷ 4 ∷ 6 ∷ []) ∷ [])) 8 gives leaves (answer 0 0 0) (words (6 ∷ 510 ∷ 7 ∷ 20 ∷ 4 ∷ 6 ∷ 0 ∷ 0 ∷ []))
     -- check by hand
     ∷ toCheck (nodes ((2 ∷ 0 ∷ 0 ∷ 0 ∷ 6 ∷ 0 ∷ 512 ∷ 7 ∷ 20 ∷ 4 ∷ 6 ∷ []) ∷ [])) 8 gives leaves (answer 7 0 0) (freshFrom 0 8)
+    -- check by hand
+    ∷ toCheck (nodes ((2 ∷ 0 ∷ 0 ∷ 0 ∷ 6 ∷ 0 ∷ 2 ∷ 2 ∷ 2 ∷ 4 ∷ 6 ∷ []) ∷ (40 ∷ 0 ∷ 0 ∷ 0 ∷ 0 ∷ 0 ∷ 1 ∷ []) ∷ [])) 16 gives leaves (answer 7 1 0) (freshFrom 0 16)
     -- check by hand
     ∷ toCheck (nodes ((2 ∷ 0 ∷ 0 ∷ 0 ∷ 6 ∷ 0 ∷ 2 ∷ 2 ∷ 2 ∷ 4 ∷ 6 ∷ []) ∷ (40 ∷ []) ∷ [])) 16 gives leaves (answer 7 1 0) (freshFrom 0 16)
     -- check by hand
@@ -70,42 +106,6 @@ table29 =
     ∷ toCheck (nodes ((2 ∷ 0 ∷ 0 ∷ 0 ∷ 4 ∷ 0 ∷ 2 ∷ 13 ∷ 14 ∷ []) ∷ (2 ∷ 0 ∷ 0 ∷ 0 ∷ 4 ∷ 2 ∷ 2 ∷ 1 ∷ 2 ∷ []) ∷ (26 ∷ 0 ∷ 2 ∷ []) ∷ [])) 24 gives leaves (answer 10 2 0) (freshFrom 0 24)
     -- check by hand
     ∷ toCheck (nodes ((2 ∷ 0 ∷ 0 ∷ 0 ∷ 4 ∷ 0 ∷ 2 ∷ 7 ∷ 20 ∷ 4 ∷ 6 ∷ []) ∷ (38 ∷ []) ∷ (38 ∷ 0 ∷ 0 ∷ 0 ∷ 0 ∷ 0 ∷ 0 ∷ 0 ∷ 0 ∷ 0 ∷ 2 ∷ []) ∷ (38 ∷ 0 ∷ 0 ∷ 0 ∷ 0 ∷ 0 ∷ 0 ∷ 0 ∷ 0 ∷ 2 ∷ []) ∷ (38 ∷ 0 ∷ 0 ∷ 0 ∷ 0 ∷ 0 ∷ 0 ∷ 0 ∷ 0 ∷ 2 ∷ 2 ∷ []) ∷ (38 ∷ 0 ∷ 0 ∷ 0 ∷ 0 ∷ 2 ∷ []) ∷ (38 ∷ 0 ∷ 0 ∷ 0 ∷ 0 ∷ 2 ∷ 0 ∷ 0 ∷ 0 ∷ 0 ∷ 2 ∷ []) ∷ (38 ∷ 0 ∷ 0 ∷ 0 ∷ 0 ∷ 2 ∷ 0 ∷ 0 ∷ 0 ∷ 2 ∷ []) ∷ (38 ∷ 0 ∷ 0 ∷ 0 ∷ 0 ∷ 2 ∷ 0 ∷ 0 ∷ 0 ∷ 2 ∷ 2 ∷ []) ∷ [])) 72 gives leaves (answer 0 0 0) (words (4 ∷ 2 ∷ 7 ∷ 20 ∷ 4 ∷ 6 ∷ 0 ∷ 0 ∷ 4 ∷ 2 ∷ 7 ∷ 20 ∷ 4 ∷ 6 ∷ 0 ∷ 0 ∷ 4 ∷ 2 ∷ 23 ∷ 60 ∷ 4 ∷ 2 ∷ 0 ∷ 0 ∷ 4 ∷ 2 ∷ 15 ∷ 40 ∷ 2 ∷ 6 ∷ 0 ∷ 0 ∷ 4 ∷ 2 ∷ 47 ∷ 120 ∷ 2 ∷ 2 ∷ 0 ∷ 0 ∷ 4 ∷ 2 ∷ 7 ∷ 20 ∷ 4 ∷ 6 ∷ 0 ∷ 0 ∷ 4 ∷ 2 ∷ 7 ∷ 20 ∷ 4 ∷ 2 ∷ 0 ∷ 0 ∷ 4 ∷ 2 ∷ 7 ∷ 20 ∷ 2 ∷ 6 ∷ 0 ∷ 0 ∷ 4 ∷ 2 ∷ 7 ∷ 20 ∷ 2 ∷ 2 ∷ 0 ∷ 0 ∷ []))
-    -- check by hand
-    ∷ toCheck (nodes ((2 ∷ 0 ∷ 0 ∷ 0 ∷ 0 ∷ 0 ∷ 2 ∷ 2 ∷ 2 ∷ 4 ∷ 6 ∷ []) ∷ (2 ∷ 0 ∷ 0 ∷ 0 ∷ 6 ∷ 2 ∷ 2 ∷ 2 ∷ 2 ∷ 4 ∷ 6 ∷ []) ∷ (2 ∷ 0 ∷ 0 ∷ 0 ∷ 6 ∷ 4 ∷ 2 ∷ 2 ∷ 2 ∷ 4 ∷ 6 ∷ []) ∷ (36 ∷ 6 ∷ 2 ∷ 4 ∷ []) ∷ [])) 32 gives leaves (answer 4 3 0) (freshFrom 0 32)
-    -- check by hand
-    ∷ toCheck (nodes ((2 ∷ 0 ∷ 0 ∷ 0 ∷ 0 ∷ 0 ∷ 2 ∷ 2 ∷ 2 ∷ 4 ∷ 6 ∷ []) ∷ (2 ∷ 0 ∷ 0 ∷ 0 ∷ 6 ∷ 2 ∷ 2 ∷ 2 ∷ 2 ∷ 4 ∷ 6 ∷ []) ∷ (2 ∷ 0 ∷ 0 ∷ 0 ∷ 6 ∷ 4 ∷ 2 ∷ 2 ∷ 2 ∷ 4 ∷ 6 ∷ []) ∷ (36 ∷ 1 ∷ 2 ∷ 4 ∷ []) ∷ [])) 32 gives leaves (answer 4 3 0) (freshFrom 0 32)
-    -- check by hand
-    ∷ toCheck (nodes ((2 ∷ 0 ∷ 0 ∷ 0 ∷ 0 ∷ 0 ∷ 2 ∷ 2 ∷ 2 ∷ 4 ∷ 6 ∷ []) ∷ (2 ∷ 0 ∷ 0 ∷ 0 ∷ 6 ∷ 2 ∷ 2 ∷ 2 ∷ 2 ∷ 4 ∷ 6 ∷ []) ∷ (2 ∷ 0 ∷ 0 ∷ 0 ∷ 6 ∷ 4 ∷ 2 ∷ 2 ∷ 2 ∷ 4 ∷ 6 ∷ []) ∷ (36 ∷ 0 ∷ 6 ∷ 4 ∷ []) ∷ [])) 32 gives leaves (answer 4 3 0) (freshFrom 0 32)
-    -- check by hand
-    ∷ toCheck (nodes ((2 ∷ 0 ∷ 0 ∷ 0 ∷ 0 ∷ 0 ∷ 2 ∷ 2 ∷ 2 ∷ 4 ∷ 6 ∷ []) ∷ (2 ∷ 0 ∷ 0 ∷ 0 ∷ 6 ∷ 2 ∷ 2 ∷ 2 ∷ 2 ∷ 4 ∷ 6 ∷ []) ∷ (2 ∷ 0 ∷ 0 ∷ 0 ∷ 6 ∷ 4 ∷ 2 ∷ 2 ∷ 2 ∷ 4 ∷ 6 ∷ []) ∷ (36 ∷ 0 ∷ 1 ∷ 4 ∷ []) ∷ [])) 32 gives leaves (answer 4 3 0) (freshFrom 0 32)
-    -- check by hand
-    ∷ toCheck (nodes ((2 ∷ 0 ∷ 0 ∷ 0 ∷ 6 ∷ 0 ∷ 2 ∷ 2 ∷ 2 ∷ 4 ∷ 6 ∷ []) ∷ (2 ∷ 0 ∷ 0 ∷ 0 ∷ 6 ∷ 2 ∷ 2 ∷ 2 ∷ 2 ∷ 4 ∷ 6 ∷ []) ∷ (18 ∷ 4 ∷ 2 ∷ []) ∷ [])) 24 gives leaves (answer 4 2 0) (freshFrom 0 24)
-    -- check by hand
-    ∷ toCheck (nodes ((2 ∷ 0 ∷ 0 ∷ 0 ∷ 6 ∷ 0 ∷ 2 ∷ 2 ∷ 2 ∷ 4 ∷ 6 ∷ []) ∷ (2 ∷ 0 ∷ 0 ∷ 0 ∷ 6 ∷ 2 ∷ 2 ∷ 2 ∷ 2 ∷ 4 ∷ 6 ∷ []) ∷ (18 ∷ 1 ∷ 2 ∷ []) ∷ [])) 24 gives leaves (answer 4 2 0) (freshFrom 0 24)
-    -- check by hand
-    ∷ toCheck (nodes ((2 ∷ 0 ∷ 0 ∷ 0 ∷ 6 ∷ 0 ∷ 2 ∷ 2 ∷ 2 ∷ 4 ∷ 6 ∷ []) ∷ (12 ∷ 0 ∷ 0 ∷ 0 ∷ 0 ∷ 0 ∷ 0 ∷ 0 ∷ 0 ∷ 6 ∷ 10 ∷ 0 ∷ 0 ∷ 2097152 ∷ 4 ∷ []) ∷ [])) 16 gives leaves (answer 8 1 0) (freshFrom 0 16)
-    -- check by hand
-    ∷ toCheck (nodes ((2 ∷ 0 ∷ 0 ∷ 0 ∷ 6 ∷ 0 ∷ 2 ∷ 2 ∷ 2 ∷ 4 ∷ 6 ∷ []) ∷ (12 ∷ 0 ∷ 0 ∷ 0 ∷ 0 ∷ 0 ∷ 0 ∷ 0 ∷ 0 ∷ 6 ∷ 10 ∷ 0 ∷ 0 ∷ 2097154 ∷ 4 ∷ []) ∷ [])) 16 gives leaves (answer 7 1 0) (freshFrom 0 16)
-    -- check by hand
-    ∷ toCheck (nodes ((2 ∷ 0 ∷ 0 ∷ 0 ∷ 6 ∷ 0 ∷ 2 ∷ 2 ∷ 2 ∷ 4 ∷ 6 ∷ []) ∷ (14 ∷ 0 ∷ 0 ∷ 0 ∷ 0 ∷ 0 ∷ 0 ∷ 0 ∷ 0 ∷ 2 ∷ 4 ∷ 0 ∷ 0 ∷ 2097152 ∷ 2 ∷ []) ∷ [])) 16 gives leaves (answer 8 1 0) (freshFrom 0 16)
-    -- check by hand
-    ∷ toCheck (nodes ((2 ∷ 0 ∷ 0 ∷ 0 ∷ 6 ∷ 0 ∷ 2 ∷ 2 ∷ 2 ∷ 4 ∷ 6 ∷ []) ∷ (14 ∷ 0 ∷ 0 ∷ 0 ∷ 0 ∷ 0 ∷ 0 ∷ 0 ∷ 0 ∷ 2 ∷ 4 ∷ 0 ∷ 0 ∷ 2097154 ∷ 2 ∷ []) ∷ [])) 16 gives leaves (answer 7 1 0) (freshFrom 0 16)
-    -- check by hand
-    ∷ toCheck (nodes ((2 ∷ 0 ∷ 0 ∷ 0 ∷ 0 ∷ 0 ∷ 2 ∷ 2 ∷ 2 ∷ 2 ∷ 6 ∷ []) ∷ (2 ∷ 0 ∷ 0 ∷ 0 ∷ 6 ∷ 2 ∷ 2 ∷ 2 ∷ 2 ∷ 4 ∷ 6 ∷ []) ∷ (2 ∷ 0 ∷ 0 ∷ 0 ∷ 6 ∷ 4 ∷ 2 ∷ 2 ∷ 2 ∷ 6 ∷ 6 ∷ []) ∷ (36 ∷ 0 ∷ 2 ∷ 4 ∷ []) ∷ [])) 32 gives leaves (answer 8 3 0) (freshFrom 0 32)
-    -- check by hand
-    ∷ toCheck (nodes ((2 ∷ 0 ∷ 0 ∷ 0 ∷ 0 ∷ 0 ∷ 2 ∷ 2 ∷ 2 ∷ 2 ∷ 2 ∷ []) ∷ (2 ∷ 0 ∷ 0 ∷ 0 ∷ 6 ∷ 2 ∷ 2 ∷ 2 ∷ 2 ∷ 4 ∷ 2 ∷ []) ∷ (2 ∷ 0 ∷ 0 ∷ 0 ∷ 6 ∷ 4 ∷ 2 ∷ 2 ∷ 2 ∷ 6 ∷ 2 ∷ []) ∷ (36 ∷ 0 ∷ 2 ∷ 4 ∷ []) ∷ [])) 32 gives leaves (answer 8 3 0) (freshFrom 0 32)
-    -- check by hand
-    ∷ toCheck (nodes ((2 ∷ 0 ∷ 0 ∷ 0 ∷ 0 ∷ 0 ∷ 2 ∷ 2 ∷ 2 ∷ 4 ∷ 2 ∷ 2 ∷ []) ∷ (2 ∷ 0 ∷ 0 ∷ 0 ∷ 6 ∷ 2 ∷ 2 ∷ 2 ∷ 2 ∷ 6 ∷ 2 ∷ []) ∷ (2 ∷ 0 ∷ 0 ∷ 0 ∷ 6 ∷ 4 ∷ 2 ∷ 2 ∷ 2 ∷ 8 ∷ []) ∷ (36 ∷ 0 ∷ 2 ∷ 4 ∷ []) ∷ [])) 32 gives leaves (answer 0 0 0) (words (0 ∷ 2 ∷ 2 ∷ 2 ∷ 4 ∷ 2 ∷ 2 ∷ 0 ∷ 6 ∷ 2 ∷ 2 ∷ 2 ∷ 6 ∷ 2 ∷ 0 ∷ 0 ∷ 6 ∷ 2 ∷ 2 ∷ 2 ∷ 8 ∷ 0 ∷ 0 ∷ 0 ∷ 6 ∷ 2 ∷ 2 ∷ 2 ∷ 4 ∷ 6 ∷ 8 ∷ 0 ∷ []))
-    -- check by hand
-    ∷ toCheck (nodes ((2 ∷ 0 ∷ 0 ∷ 0 ∷ 0 ∷ 0 ∷ 2 ∷ 2 ∷ 2 ∷ 4 ∷ 6 ∷ []) ∷ (2 ∷ 0 ∷ 0 ∷ 0 ∷ 6 ∷ 2 ∷ 2 ∷ 2 ∷ 2 ∷ 2 ∷ []) ∷ (2 ∷ 0 ∷ 0 ∷ 0 ∷ 6 ∷ 4 ∷ 2 ∷ 2 ∷ 2 ∷ 6 ∷ 6 ∷ []) ∷ (36 ∷ 0 ∷ 2 ∷ 4 ∷ []) ∷ [])) 32 gives leaves (answer 8 3 0) (freshFrom 0 32)
-    -- refused before 14
-    ∷ toCheck (words (0 ∷ [])) 0 gives leaves (answer 1 0 0) []
-    -- refused before 13 and 14
-    ∷ toRun (words (0 ∷ [])) (words (2 ∷ [])) [] 0 0 gives leavesBoth (answer 1 0 0) [] []
-    -- refused before 14
-    ∷ toCheck (nodes ((42 ∷ []) ∷ [])) 0 gives leaves (answer 2 0 0) []
-    -- refused before 13 and 14
-    ∷ toRun (nodes ((42 ∷ []) ∷ [])) (words (2 ∷ [])) [] 0 0 gives leavesBoth (answer 2 0 0) [] []
     ∷ []
 
 pub table29-agrees : Agree table29

@@ -65,7 +65,7 @@ further =
     ∷ boundsOf (param 0 i16 (negsuc 8) (pos 9) (1 ∷ []) ++ choice 0 0 0) says refusal 6 1
     -- 1048576 elements and one more; 4194304 and one more
     ∷ boundsOf (param 0 i16 (negsuc 8) (pos 9) (1024 ∷ 1024 ∷ [])) says bounds (negsuc 8) (pos 9)
-    ∷ boundsOf (param 0 i16 (negsuc 8) (pos 9) (1024 ∷ 1025 ∷ [])) says refusal 8 0
+    ∷ boundsOf (param 0 i16 (negsuc 8) (pos 9) (17 ∷ 61681 ∷ [])) says refusal 8 0
     ∷ boundsOf (param 0 i16 (negsuc 8) (pos 9) (1024 ∷ 1024 ∷ []) ++ param 1 i16 (negsuc 8) (pos 9) (1024 ∷ 1024 ∷ []) ++ param 2 i16 (negsuc 8) (pos 9) (1024 ∷ 1024 ∷ []) ++ param 3 i16 (negsuc 8) (pos 9) (1024 ∷ 1024 ∷ [])) says bounds (negsuc 8) (pos 9)
     ∷ boundsOf (param 0 i16 (negsuc 8) (pos 9) (1024 ∷ 1024 ∷ []) ++ param 1 i16 (negsuc 8) (pos 9) (1024 ∷ 1024 ∷ []) ++ param 2 i16 (negsuc 8) (pos 9) (1024 ∷ 1024 ∷ []) ++ param 3 i16 (negsuc 8) (pos 9) (1024 ∷ 1024 ∷ []) ++ constant i16 (pos 1)) says refusal 12 0
     -- 1: no nodes, a length that is no multiple of 17

@@ -127,7 +127,7 @@ facts =
     is tests (true ∷ false ∷ false ∷ [])
     -- "8: shapes disagree, or over 1048576 elements": PAD of 3 at 2 to 4
     ∷ plan (small ∷ move PAD 0 (4 ∷ 4 ∷ []) (0 ∷ 2 ∷ []) ∷ []) is refusal 8 1
-    ∷ plan (big (1024 ∷ 1025 ∷ []) ∷ []) is refusal 8 0
+    ∷ plan (big (17 ∷ 61681 ∷ []) ∷ []) is refusal 8 0
     -- "9: two devices"; "Others take the one non-zero device of their sources"
     ∷ plan (small ∷ load 0 4 ∷ on ADD (0 ∷ 1 ∷ []) ∷ []) is refusal 9 2
     ∷ tests (devicesAgree 3 0 3 ∷ devicesAgree 3 4 0 ∷ devicesAgree 0 3 4 ∷ []) is tests (true ∷ false ∷ false ∷ [])
