@@ -34,7 +34,7 @@ all-below zero p e k h = absurd (not-suc-le-zero h)
 all-below (suc n) p e zero h = and-true (p 0) (allBelow n (λ (j : ℕ). p (suc j))) e .0
 all-below (suc n) p e (suc k) h = all-below n (λ (j : ℕ). p (suc j)) (and-true (p 0) (allBelow n (λ (j : ℕ). p (suc j))) e .1) k (le-of-suc-le-suc h)
 
-all-below-of : (n : ℕ) (p : ℕ → Bool) → ((k : ℕ) → k < n → p k ≡ true) → allBelow n p ≡ true
+pub all-below-of : (n : ℕ) (p : ℕ → Bool) → ((k : ℕ) → k < n → p k ≡ true) → allBelow n p ≡ true
 unfolding allBelow
 all-below-of zero p h = refl
 all-below-of (suc n) p h = rw (h 0 (zero-lt-suc n)) (all-below-of n (λ (j : ℕ). p (suc j)) (λ k q. h (suc k) (suc-le-suc q)))

@@ -2,7 +2,7 @@
 use Prim.Native.Nat.{ℕ, zero, suc, _*_, _%_, _<_, suc-le-suc}
 use native.Mathlib.Nat.{not-suc-le-zero, zero-lt-suc, one-mul, mul-assoc, mul-pos, mod-lt, div-add-mod', div-eq-of-lt, mod-eq-of-lt, div-lt-iff-lt-mul}
 use native.Mathlib.Omega.{arith}
-use mathlib.Core.Path.{_≡_, refl}
+use mathlib.Core.Path.{_≡_, refl, sym, _∙_}
 use mathlib.Core.List.{List, [], _∷_, _++_}
 use lib.Arith.{digits-div, digits-mod, digits-lt}
 use lib.ListN.{length, getD, replicate}
@@ -57,6 +57,18 @@ ravel-same-below (n ∷ ns) c d h = rw (h 0 (zero-lt-suc (length ns)), ravel-sam
 
 pub ravel-same : (s : List ℕ) (c d : ℕ → ℕ) → ((k : ℕ) → c k ≡ d k) → ravel s c ≡ ravel s d
 ravel-same s c d h = ravel-same-below s c d (λ k q. h k)
+
+-- o is the element at coordinates c
+pub record Stands (s : List ℕ) (c : ℕ → ℕ) (o : ℕ) : Type 0 where
+  pub inside : o < count s
+  pub coordinate : (k : ℕ) → k < length s → coord s o k ≡ c k
+
+pub ravel-stands : (s : List ℕ) (c : ℕ → ℕ) → ((k : ℕ) → k < length s → c k < getD s k 1) → Stands s c (ravel s c)
+ravel-stands s c h = record { inside = ravel-lt s c h; coordinate = coord-ravel s c h }
+
+-- no two elements have the same coordinates
+pub coord-same : (s : List ℕ) (o p : ℕ) → o < count s → p < count s → ((k : ℕ) → k < length s → coord s o k ≡ coord s p k) → o ≡ p
+coord-same s o p h g f = sym (ravel-coord s o h) ∙ ravel-same-below s (coord s o) (coord s p) f ∙ ravel-coord s p g
 
 -- an extent of 1 in front: coordinate 0 there, and the others as they were; then any number of them
 pub coord-front : (s : List ℕ) (e : ℕ) → e < count s → coord (1 ∷ s) e 0 ≡ 0

@@ -1,7 +1,7 @@
 -- One step of following an element back.
 use Prim.Native.Nat.{ℕ, suc, _<_}
-use mathlib.Core.Path.{_≡_, refl, ap}
-use mathlib.Core.Bool.{Bool, true, false, false≢true}
+use mathlib.Core.Path.{_≡_, refl}
+use mathlib.Core.Bool.{true, false}
 use mathlib.Core.Option.{Option, none, some}
 use mathlib.Core.List.{List}
 use borrow.Author.Tests.{lt-ltb}
@@ -11,24 +11,35 @@ use Rattle.laws.specs.Lists.{among}
 use Rattle.plan.specs.declared.Node.{Node}
 use Rattle.plan.specs.declared.NodeNumber.{NodeNumber}
 use Rattle.plan.specs.declared.ElementNumber.{ElementNumber}
-use Rattle.plan.specs.Operations.{PAD, followed, byOperation}
-use Rattle.plan.specs.Words.{nodeAt}
+use Rattle.plan.specs.Operations.{PERMUTE, followed}
+use Rattle.plan.specs.Words.{nodeAt, listOf}
 use Rattle.plan.specs.Answers.{accepted}
-use Rattle.plan.proofs.ByOperation.{_then_, for-group, followed-uses}
-use Rattle.shapes.specs.Sources.{sourceRules, sourceElement, Below}
-use Rattle.shapes.proofs.Sources.{source-below}
+use Rattle.plan.proofs.ByOperation.{followed-uses}
+use Rattle.shapes.specs.Rows.{isPermutation}
+use Rattle.shapes.specs.Rules.{shapesAgree, resultExtents}
+use Rattle.shapes.specs.Sources.{sourceElement, Below}
+use Rattle.shapes.specs.Coordinates.{ComesFrom, NewCell}
+use Rattle.shapes.proofs.Coordinates.{source-below, source-from, from-source, none-source}
 use Rattle.rules.specs.Rules.{Derived}
-use Rattle.verifier.specs.Check.{verdict, first, countOf}
+use Rattle.verifier.specs.Check.{verdict, first, second, third, countOf}
 use Rattle.verifier.specs.Meets.{NodeMeets}
 use Rattle.verifier.proofs.Accepted.{accepted-meets}
 use Rattle.verifier.proofs.Nodes.{source1-before, source-is, permutation-row, shapes-agree, extents-derived}
 use Rattle.lookup.specs.Following.{foundAt, fromSource, recordOf, follow, isThere, lookup}
 
+-- the element of its source that element e of node n is, none at a gap; and that it comes from element o
+abbrev pub oneBack : List ℤ → List Derived → NodeNumber → ElementNumber → Option ElementNumber
+oneBack t ds n e = sourceElement (nodeAt t (n .0)) (recordOf ds (nodeAt t (n .0) .source1) .extents) (recordOf ds n .extents) e
+
+abbrev pub Comes : List ℤ → List Derived → NodeNumber → ElementNumber → ElementNumber → Type 0
+Comes t ds n o e =
+    let x = nodeAt t (n .0) in
+    ComesFrom (x .op) (recordOf ds (x .source1) .extents) (recordOf ds n .extents) (listOf (x .rowa)) (listOf (x .rowb)) (o .0) (e .0)
+
 module _ (k : ℕ) (t : List ℤ) (ds : List Derived) (n : NodeNumber) (e : ElementNumber) where
   -- a node that is followed back, and one that is not
   pub follow-back : among (nodeAt t (n .0) .op) followed ≡ true
-      → follow (suc k) t ds n e
-      ≡ fromSource (sourceElement (nodeAt t (n .0)) (recordOf ds (nodeAt t (n .0) .source1) .extents) (recordOf ds n .extents) e) (follow k t ds (nodeAt t (n .0) .source1))
+      → follow (suc k) t ds n e ≡ fromSource (oneBack t ds n e) (follow k t ds (nodeAt t (n .0) .source1))
   unfolding follow
   follow-back f = rw f refl
 
@@ -48,13 +59,36 @@ module _ (t : List ℤ) (ds : List Derived) (v : verdict t ≡ accepted ds) (n :
   pub source-record : first (nodeAt t (n .0)) (take (n .0) ds) ≡ recordOf ds (nodeAt t (n .0) .source1)
   source-record = source-is ds (n .0) (nodeAt t (n .0) .op) 1 (nodeAt t (n .0) .source1) (followed-uses (nodeAt t (n .0) .op) f) source-earlier
 
-  -- the element that it is, is one of the source's
-  pub source-inside : (e : ElementNumber) → e .0 < countOf (recordOf ds n)
-      → Below (countOf (recordOf ds (nodeAt t (n .0) .source1))) (sourceElement (nodeAt t (n .0)) (recordOf ds (nodeAt t (n .0) .source1) .extents) (recordOf ds n .extents) e)
-  source-inside e l =
-      rw source-record at
-      (source-below (nodeAt t (n .0)) _ _ _ (recordOf ds n .extents) e (shapes-agree t (n .0) (take (n .0) ds) (recordOf ds n) rules) (extents-derived t (n .0) (take (n .0) ds) (recordOf ds n) rules)
-      (permutation-row t (n .0) (take (n .0) ds) (recordOf ds n) rules) l f)
+  -- its shapes agree, and PERMUTE's row is one
+  abbrev x : Node
+  x = nodeAt t (n .0)
+
+  agree : shapesAgree (nodeAt t (n .0)) (recordOf ds (nodeAt t (n .0) .source1) .extents) (second (nodeAt t (n .0)) (take (n .0) ds) .extents) (third (nodeAt t (n .0)) (take (n .0) ds) .extents)
+      ≡ true
+  agree = rw source-record at (shapes-agree t (n .0) (take (n .0) ds) (recordOf ds n) rules)
+
+  shape : recordOf ds n .extents
+      ≡ resultExtents (nodeAt t (n .0)) (recordOf ds (nodeAt t (n .0) .source1) .extents) (second (nodeAt t (n .0)) (take (n .0) ds) .extents) (third (nodeAt t (n .0)) (take (n .0) ds) .extents)
+  shape = rw source-record at (extents-derived t (n .0) (take (n .0) ds) (recordOf ds n) rules)
+
+  row : nodeAt t (n .0) .op ≡ PERMUTE → isPermutation (length (recordOf ds (nodeAt t (n .0) .source1) .extents)) (listOf (nodeAt t (n .0) .rowa)) ≡ true
+  row = rw source-record at (permutation-row t (n .0) (take (n .0) ds) (recordOf ds n) rules)
+
+  module _ (e : ElementNumber) (l : e .0 < countOf (recordOf ds n)) where
+    -- the element that it is, is one of the source's
+    pub source-inside : Below (countOf (recordOf ds (nodeAt t (n .0) .source1))) (oneBack t ds n e)
+    source-inside = source-below x _ _ _ _ e agree shape row l f
+
+    -- it is the element that it comes from, and there is none only at a new cell of a PAD
+    pub source-comes : (o : ElementNumber) → oneBack t ds n e ≡ some o → Comes t ds n o e
+    source-comes = source-from x _ _ _ _ e agree shape row l f
+
+    pub comes-source : (o : ElementNumber) → Comes t ds n o e → oneBack t ds n e ≡ some o
+    comes-source = from-source x _ _ _ _ e agree shape row l
+
+    pub new-source : nodeAt t (n .0) .op ≡ 6 → NewCell (recordOf ds (nodeAt t (n .0) .source1) .extents) (recordOf ds n .extents) (listOf (nodeAt t (n .0) .rowb)) (e .0)
+        → oneBack t ds n e ≡ none
+    new-source = none-source x _ _ _ _ e agree shape row l
 
 -- ---- a lookup
 
@@ -63,17 +97,3 @@ pub lookup-finds : (t : List ℤ) (ds : List Derived) (n : NodeNumber) (e : Elem
     → lookup t n e ≡ accepted (follow (suc (n .0)) t ds n e)
 unfolding lookup isThere
 lookup-finds t ds n e v h l = rw (v, lt-ltb (n .0) (length ds) h, lt-ltb (e .0) (countOf (recordOf ds n)) l) refl
-
--- only a PAD has an element that comes from nowhere
-some-none : {A G : Type 0} {a : A} → some a ≡ none → G
-some-none e = absurd (false≢true (ap is-none e))
-  where
-    is-none : {A : Type 0} → Option A → Bool
-    is-none none = true
-    is-none (some a) = false
-
-pub none-pads : (x : Node) (s r : List ℕ) (e : ElementNumber) → among (x .op) followed ≡ true → sourceElement x s r e ≡ none → x .op ≡ PAD
-unfolding sourceElement among
-none-pads x s r e =
-    for-group (λ (k : ℕ). byOperation k (sourceRules x s r e) none ≡ none → k ≡ PAD) (x .op) followed
-    (some-none then some-none then some-none then some-none then (λ q. refl) then some-none then some-none then tt)

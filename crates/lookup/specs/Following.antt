@@ -34,7 +34,7 @@ abbrev pub recordOf : List Derived → NodeNumber → Derived
 recordOf ds n = getD ds (n .0) noSource
 
 -- "follows nodes 2–7 and 20 back, the source always being an earlier node, to the first other node", through fewer than k nodes.
--- The node number falls at each step, so k = n + 1 is never used up and the first case is not reached (`reaches` of guarantees/proofs/Lookups.antt).
+-- The node number falls at each step, so k = n + 1 is never used up and the first case is not reached (`ends` of guarantees/proofs/Lookups.antt).
 unfoldable pub follow : ℕ → List ℤ → List Derived → NodeNumber → ElementNumber → Found
 follow zero t ds n e = Gap
 follow (suc k) t ds n e =

@@ -8,13 +8,13 @@ use native.Mathlib.Omega.{arith}
 use native.Mathlib.Nat.{zero-add}
 use borrow.Author.Tests.{eqb-true, eqb-false}
 use lib.Dec.{eqb}
-use lib.ListN.{length, getD, replicate, length-replicate}
+use lib.ListN.{length, getD, replicate, length-replicate, List·getD-append, getD-replicate}
 use lib.Seq.{getD-append-add}
 use Rattle.laws.specs.Lists.{tab, allBelow, among}
 use Rattle.laws.specs.Numbering.{count, ravel, coord}
 use Rattle.laws.proofs.Booleans.{bool-cases, and-true, or-true, all-below}
 use Rattle.laws.proofs.Lists.{getD-tab}
-use Rattle.laws.proofs.Numbering.{ravel-lt, ravel-same, coord-lt}
+use Rattle.laws.proofs.Numbering.{Stands, ravel-stands, ravel-same, coord-lt}
 use Rattle.plan.specs.declared.ElementNumber.{ElementNumber}
 use Rattle.plan.specs.declared.Node.{Node}
 use Rattle.plan.specs.Operations.{WHERE, binaries, byOperation}
@@ -40,10 +40,11 @@ spreads-trans {s} {r} {q} f g = record { rank = omega (arith, f .rank, g .rank);
         (λ e. ⊎-elim (λ one. inl (e ∙ one)) (λ more. inr (e ∙ more ∙ ap (λ (i : ℕ). extent q i) same)) (g .axis (length r - length s + k) j))
         (f .axis k h)
 
--- the element under an element of the result
-pub spread-below : {s r : List ℕ} → Spreads s r → (e : ElementNumber) → e .0 < count r → broadcastSource s r e .0 < count s
+-- the element under an element of the result, and that it is one of the operand's
+pub spread-stands : {s r : List ℕ} → Spreads s r → (e : ElementNumber) → e .0 < count r
+    → Stands s (λ (k : ℕ). cond (eqb (extent s k) 1) 0 (coord r (e .0) (length r - length s + k))) (broadcastSource s r e .0)
 unfolding broadcastSource
-spread-below {s} {r} f e h = ravel-lt s _ below
+spread-stands {s} {r} f e h = ravel-stands s _ below
   where
     below : (k : ℕ) → k < length s → cond (eqb (extent s k) 1) 0 (coord r (e .0) (length r - length s + k)) < extent s k
     below k q =
@@ -51,6 +52,9 @@ spread-below {s} {r} f e h = ravel-lt s _ below
         bool-cases (eqb (extent s k) 1)
         (λ one. let z : extent s k ≡ 1 = eqb-true (extent s k) 1 one in rw one (omega arith))
         (λ other. rw other (⊎-elim (λ one. absurd (eqb-false (extent s k) 1 other one)) (λ same. omega arith) (f .axis k q)))
+
+pub spread-below : {s r : List ℕ} → Spreads s r → (e : ElementNumber) → e .0 < count r → broadcastSource s r e .0 < count s
+spread-below f e h = spread-stands f e h .inside
 
 -- EXPAND reads as a broadcast of the same rank does
 pub expand-spread : (s r : List ℕ) (e : ℕ) → length s ≡ length r → expandSource s r e ≡ broadcastSource s r (element e) .0
@@ -60,9 +64,13 @@ expand-spread s r e l =
 
 -- ---- the shapes of a broadcast
 
-aligned-at : (n : ℕ) (s : List ℕ) (k : ℕ) → extent (aligned n s) (n - length s + k) ≡ extent s k
+pub aligned-at : (n : ℕ) (s : List ℕ) (k : ℕ) → extent (aligned n s) (n - length s + k) ≡ extent s k
 unfolding aligned
 aligned-at n s k = rw length-replicate at (getD-append-add (replicate (n - length s) 1) s k 1)
+
+pub aligned-front : (n : ℕ) (s : List ℕ) (k : ℕ) → k < n - length s → extent (aligned n s) k ≡ 1
+unfolding aligned
+aligned-front n s k h = List·getD-append (replicate (n - length s) 1) s 1 k (rw length-replicate h) ∙ getD-replicate (n - length s) k 1 1 h
 
 spread : (s r : List ℕ) → length s ≤ length r
     → ((j : ℕ) → j < length r → (extent (aligned (length r) s) j ≡ 1) ⊎ (extent (aligned (length r) s) j ≡ extent r j)) → Spreads s r

@@ -4,4 +4,5 @@ pub mod Words
 pub mod RowTests
 pub mod Broadcast
 pub mod Sources
+pub mod Coordinates
 pub mod Facts

@@ -1,10 +1,10 @@
 -- Tests of the four words of a row, and what a row that passes is.
 use Prim.Native.Nat.{ℕ, zero, suc, _+_, _<_, _≤_}
 use native.Mathlib.Omega.{arith}
-use mathlib.Core.Path.{_≡_, refl, sym}
-use mathlib.Core.Bool.{Bool, true, false, _&&_, _||_, cond}
+use mathlib.Core.Path.{_≡_, refl, sym, _∙_}
+use mathlib.Core.Bool.{Bool, true, false, _&&_, _||_, cond, false≢true}
 use mathlib.Core.List.{List, [], _∷_}
-use borrow.Author.Tests.{eqb-true, ne-eqb, leb-true, ltb-true, lt-ltb}
+use borrow.Author.Tests.{eqb-true, ne-eqb, leb-true, ltb-true, ltb-false, lt-ltb}
 use lib.Dec.{eqb, leb, ltb}
 use lib.ListN.{length, take}
 use Rattle.laws.specs.Lists.{allBelow, occurrences}
@@ -73,6 +73,12 @@ no-permutation rank a b c d h =
     let once = each-once rank (a ∷ b ∷ c ∷ d ∷ []) (omega arith) e in
     absurd (omega (arith, one-axis a, one-axis b, one-axis c, one-axis d, once 0 (omega arith), once 1 (omega arith), once 2 (omega arith), once 3 (omega arith), once 4 h)))
     (λ e. sym e)
+
+pub permutation-ranked : (rank : ℕ) (row : Row) → isPermutation rank (listOf row) ≡ true → rank ≤ 4
+permutation-ranked rank row e =
+    bool-cases (ltb 4 rank)
+    (λ l. absurd (false≢true (no-permutation rank (row .r0) (row .r1) (row .r2) (row .r3) (ltb-true 4 rank l) ∙ e)))
+    (λ l. ltb-false 4 rank l)
 
 -- ---- the words of a row that passes
 
