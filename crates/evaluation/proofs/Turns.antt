@@ -9,7 +9,7 @@ use Rattle.plan.specs.Words.{nodeAt, paramsBefore}
 use Rattle.rules.specs.Rules.{Derived, noSource, sourceOf}
 use Rattle.verifier.specs.Check.{first, second, third}
 use Rattle.verifier.specs.Meets.{NodesMeet}
-use Rattle.verifier.proofs.Nodes.{op-known, shapes-agree, extents-derived, few-elements, source-has, extents-at}
+use Rattle.verifier.proofs.Nodes.{op-known, rows-right, shapes-agree, extents-derived, few-elements, source-has, extents-at}
 use Rattle.evaluation.specs.Ready.{Proper, Right}
 use Rattle.evaluation.proofs.Groups.{proper-none}
 
@@ -29,7 +29,7 @@ module _ (t : List ℤ) (n : ℕ) (ds : List Derived) (m : NodesMeet t n ds) whe
         record {
           params = paramsBefore t i;
           known = op-known t i (take i ds) (getD ds i noSource) rules;
-          rows = rules .rule7;
+          rows = rows-right t i (take i ds) (getD ds i noSource) rules;
           shapes = shapes-agree t i (take i ds) (getD ds i noSource) rules;
           result = extents-derived t i (take i ds) (getD ds i noSource) rules;
           first = source-proper 1 (nodeAt t i .source1);

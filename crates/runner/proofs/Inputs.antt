@@ -17,8 +17,8 @@ use Rattle.plan.specs.declared.Interval.{Interval}
 use Rattle.plan.specs.Operations.{PARAM}
 use Rattle.plan.specs.Types.{between, holds}
 use Rattle.plan.specs.Words.{nodeAt, ifParam, overParams}
-use Rattle.plan.specs.Answers.{Outcome, accepted, refused, need, inTurn}
-use Rattle.plan.proofs.Outcomes.{need-accepted, turn-last, turn-same, turn-all, turn-prefix}
+use Rattle.plan.specs.Answers.{Refusal, Outcome, accepted, refused, need, inTurn}
+use Rattle.plan.proofs.Outcomes.{need-accepted, turn-last, turn-more, turn-stays, turn-refused, turn-same, turn-all, turn-prefix}
 use Rattle.bounds.proofs.Sound.{held, holding}
 use Rattle.rules.specs.Rules.{Derived, noSource}
 use Rattle.verifier.specs.Check.{countOf}
@@ -123,16 +123,45 @@ module _ (limits : List Interval) (values : List ℤ) (flags : List ℕ) where
   abbrev limitsAt : ℕ → Interval
   limitsAt p = getD limits p (between (pos 0) (pos 0))
 
+  -- the positions before n are not refused, exactly when each passes
+  abbrev step : ℕ → Unit {0} → Outcome Unit
+  step p passed = testAt limits values flags p
+
+  pub turns-passed : (n : ℕ) → inTurn (λ (p : ℕ) (passed : Unit). testAt limits values flags p) tt n ≡ accepted tt → (p : ℕ) → p < n
+      → Passes (getD limits p (between (pos 0) (pos 0))) (getD values p (pos 0)) (getD flags p 0)
+  turns-passed n e p h =
+      let before = turn-prefix step tt (suc p) n h e in
+      test-passes (limitsAt p) (getD values p (pos 0)) (getD flags p 0) p (turn-last step tt p (before .1) .2)
+
+  pub passed-turns : (n : ℕ) → ((p : ℕ) → p < n → Passes (getD limits p (between (pos 0) (pos 0))) (getD values p (pos 0)) (getD flags p 0))
+      → inTurn (λ (p : ℕ) (passed : Unit). testAt limits values flags p) tt n ≡ accepted tt
+  passed-turns n h = turn-all step tt n (λ p q. passes-test (limitsAt p) (getD values p (pos 0)) (getD flags p 0) p (h p q))
+
   -- none is refused 15 or 16, exactly when every position passes
   pub tests-passed : testInputs limits values flags ≡ accepted tt → (p : ℕ) → p < length limits → Passes (getD limits p (between (pos 0) (pos 0))) (getD values p (pos 0)) (getD flags p 0)
   unfolding testInputs
-  tests-passed e p h =
-      let before = turn-prefix (λ (p : ℕ) (passed : Unit). testAt limits values flags p) tt (suc p) (length limits) h e in
-      test-passes (limitsAt p) (getD values p (pos 0)) (getD flags p 0) p (turn-last (λ (p : ℕ) (passed : Unit). testAt limits values flags p) tt p (before .1) .2)
+  tests-passed e = turns-passed (length limits) e
 
   pub passed-tests : ((p : ℕ) → p < length limits → Passes (getD limits p (between (pos 0) (pos 0))) (getD values p (pos 0)) (getD flags p 0)) → testInputs limits values flags ≡ accepted tt
   unfolding testInputs
-  passed-tests h = turn-all (λ (p : ℕ) (passed : Unit). testAt limits values flags p) tt (length limits) (λ p q. passes-test (limitsAt p) (getD values p (pos 0)) (getD flags p 0) p (h p q))
+  passed-tests h = passed-turns (length limits) h
+
+  -- the first position that does not pass, and what is wrong there
+  pub record Stops (r : Refusal) : Type 0 where
+    pub at : ℕ
+    pub inside : at < length limits
+    pub before : (q : ℕ) → q < at → Passes (getD limits q (between (pos 0) (pos 0))) (getD values q (pos 0)) (getD flags q 0)
+    pub refuses : testAt limits values flags at ≡ refused r
+
+  pub tests-stop : {r : Refusal} → testInputs limits values flags ≡ refused r → Stops r
+  unfolding testInputs
+  tests-stop e =
+      let w = turn-refused step tt (length limits) e in
+      record { at = w .0; inside = w .2; before = turns-passed (w .0) (w .3); refuses = w .4 }
+
+  pub stop-tests : {r : Refusal} → Stops r → testInputs limits values flags ≡ refused r
+  unfolding testInputs
+  stop-tests s = turn-stays step tt (suc (s .at)) (length limits) (s .inside) (turn-more step tt (s .at) (passed-turns (s .at) (s .before)) ∙ s .refuses)
 
   -- a number under a gap is not looked at
   pub tests-same : (others : List ℤ) → ((p : ℕ) → getD flags p 0 ≡ 1 → getD values p (pos 0) ≡ getD others p (pos 0)) → testInputs limits values flags ≡ testInputs limits others flags

@@ -25,7 +25,7 @@ use Rattle.bounds.proofs.Sound.{In, holding, wider}
 use Rattle.rules.specs.Rules.{Derived, noSource, sourceOf, divisorRight}
 use Rattle.verifier.specs.Check.{first, second, third, countOf}
 use Rattle.verifier.specs.Meets.{NodeMeets, NodesMeet}
-use Rattle.verifier.proofs.Nodes.{op-known, bounds-derived, in-type, source2-before, source-is}
+use Rattle.verifier.proofs.Nodes.{op-known, divisor-right, bounds-derived, in-type, source2-before, source-is}
 use Rattle.cells.specs.Cells.{Cell, known, gap, Field, cellAt}
 use Rattle.cells.specs.Nodes.{evalNode}
 use Rattle.cells.proofs.Sound.{Bounded, Sound, NoZero, Supplied, node-sound}
@@ -92,7 +92,7 @@ module _ (t : List ℤ) (n : ℕ) (ds : List Derived) (m : NodesMeet t n ds) (in
         let same = matches (nodeAt t i .op) 1 (nodeAt t i .source1) .extents in
         rw (field-at t ds input n i h, bounds-derived t i (take i ds) (getD ds i noSource) rules, ← same)
         (node-sound (nodeAt t i) (getD ds i noSource .extents) (operandsOf t ds input i (fieldsTo t ds input i)) _ _ _
-        (op-known t i (take i ds) (getD ds i noSource) rules) (divisor-rule (nodeAt t i .op) _ (rules .rule10)) supplied e)
+        (op-known t i (take i ds) (getD ds i noSource) rules) (divisor-rule (nodeAt t i .op) _ (divisor-right t i (take i ds) (getD ds i noSource) rules)) supplied e)
 
   -- every cell of every node
   pub all-sound : (i : ℕ) → i < n → Sound (getD ds i noSource .bounds) (getD (fieldsTo t ds input n) i noField)
@@ -114,6 +114,6 @@ module _ (t : List ℤ) (n : ℕ) (ds : List Derived) (m : NodesMeet t n ds) (in
       let u : uses (nodeAt t i .op) 2 ≡ true = divides-uses (nodeAt t i .op) q in
       let s : nodeAt t i .source2 .0 < i = source2-before t i (take i ds) (getD ds i noSource) rules u in
       let b : second (nodeAt t i) (take i ds) ≡ getD ds (nodeAt t i .source2 .0) noSource = source-is ds i (nodeAt t i .op) 2 (nodeAt t i .source2) u s in
-      let z : not (holds (getD ds (nodeAt t i .source2 .0) noSource .bounds) (pos 0)) ≡ true = rw b at (divisor-rule (nodeAt t i .op) (second (nodeAt t i) (take i ds) .bounds) (rules .rule10) q) in
+      let z : not (holds (getD ds (nodeAt t i .source2 .0) noSource .bounds) (pos 0)) ≡ true = rw b at (divisor-rule (nodeAt t i .op) (second (nodeAt t i) (take i ds) .bounds) (divisor-right t i (take i ds) (getD ds i noSource) rules) q) in
       let inside : In (pos 0) (getD ds (nodeAt t i .source2 .0) noSource .bounds) = in-bounds (nodeAt t i .source2 .0) (omega arith) e (pos 0) k in
       false≢true (rw (holding _ (pos 0) inside) at z)

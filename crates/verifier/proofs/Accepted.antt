@@ -17,36 +17,19 @@ use Rattle.plan.specs.Answers.{Refusal, Outcome, accepted, refused, refuse, nee
 use Rattle.plan.proofs.Outcomes.{never-both, accepted-same, refused-same, need-accepted, then-accepted, turn-last, turn-more, turn-stays, turn-refused, order-accepted, order-holds, order-refused, order-fails}
 use Rattle.rules.specs.Rules.{Derived, noSource}
 use Rattle.verifier.specs.Check.{deriveNode, nodeRules, checkNode, checkTo, lengthRight, totalOf, totalLimit, verdict}
+use Rattle.verifier.proofs.ByNumber.{all-rules, rules-all, first-rule, rule-first}
 use Rattle.verifier.specs.Meets.{NodeMeets, MeetsAt, NodesMeet, PlanMeets, Refuses, bad-length, bad-node, too-many}
 
 -- ---- one node
 
 module _ (t : List ℤ) (n : ℕ) (earlier : List Derived) where
   rules-meet : AllHold (nodeRules t n earlier) → NodeMeets t n earlier (deriveNode t n earlier)
-  unfolding nodeRules deriveNode nodeAt
-  rules-meet h =
-      record {
-        rule2 = h .0;
-        rule3 = h .1 .0;
-        rule4 = h .1 .1 .0;
-        rule5 = h .1 .1 .1 .0;
-        rule6 = h .1 .1 .1 .1 .0;
-        rule7 = h .1 .1 .1 .1 .1 .0;
-        rule8 = h .1 .1 .1 .1 .1 .1 .0;
-        rule9 = h .1 .1 .1 .1 .1 .1 .1 .0;
-        rule10 = h .1 .1 .1 .1 .1 .1 .1 .1 .0;
-        rule11 = h .1 .1 .1 .1 .1 .1 .1 .1 .1 .0;
-        derived = refl;
-      }
+  unfolding deriveNode
+  rules-meet h = record { holds = all-rules t n earlier h; derived = refl }
 
   meets-derived : {d : Derived} → NodeMeets t n earlier d → d ≡ deriveNode t n earlier
   unfolding deriveNode
   meets-derived m = m .derived
-
-  meets-rules : NodeMeets t n earlier (deriveNode t n earlier) → AllHold (nodeRules t n earlier)
-  unfolding nodeRules deriveNode nodeAt
-  meets-rules m =
-      (m .rule2, (m .rule3, (m .rule4, (m .rule5, (m .rule6, (m .rule7, (m .rule8, (m .rule9, (m .rule10, (m .rule11, tt))))))))))
 
 -- ---- the first n nodes
 
@@ -101,7 +84,7 @@ module _ (t : List ℤ) where
       let before : NodesMeet t n (take n ds) = record { as-many = l; each = λ i q. shorter ds n i q (m .each i (omega arith)) } in
       let this : MeetsAt t ds n = m .each n (omega arith) in
       let d : getD ds n noSource ≡ deriveNode t n (take n ds) = meets-derived t n (take n ds) this in
-      let rules : AllHold (nodeRules t n (take n ds)) = meets-rules t n (take n ds) (rw d at this) in
+      let rules : AllHold (nodeRules t n (take n ds)) = rules-all t n (take n ds) (this .holds) in
       let whole : take n ds ++ deriveNode t n (take n ds) ∷ [] ≡ ds = rw (← d, ← take-suc ds n noSource h) (take-whole (suc n) ds (omega (arith, m .as-many))) in
       turn-more (checkNode t) [] n (meets-checked n (take n ds) before)
       ∙ order-holds (nodeRules t n (take n ds)) n (accepted (take n ds ++ deriveNode t n (take n ds) ∷ [])) rules
@@ -138,7 +121,9 @@ refused-because t r e = go (lengthRight t) refl e
     node l q =
         let w = turn-refused (checkNode t) [] (nodeCount t) q in
         let f = order-refused (nodeRules t (w .0) (w .1)) (w .0) (w .1 ++ deriveNode t (w .0) (w .1) ∷ []) (w .4) in
-        subst (Refuses t) (refusal-of (r .number) (w .0) refl (sym (f .1))) (bad-node l (w .2) (checked-meets t (w .0) (w .1) (w .3)) (f .0))
+        let k = first-rule t (w .0) (w .1) (f .0) in
+        subst (Refuses t) (refusal-of (r .number) (w .0) refl (sym (f .1)))
+        (bad-node l (w .2) (checked-meets t (w .0) (w .1) (w .3)) (k .not-below) (omega (arith, k .not-above)) (k .smaller) (k .fails))
 
     total : (ds : List Derived) → lengthRight t ≡ true → checkTo t (nodeCount t) ≡ accepted ds → (b : Bool) → leb (totalOf ds) totalLimit ≡ b
         → cond b (accepted ds) (refuse 12 0) ≡ refused r → Refuses t r
@@ -158,8 +143,9 @@ refused-because t r e = go (lengthRight t) refl e
 pub because-refused : (t : List ℤ) (r : Refusal) → Refuses t r → verdict t ≡ refused r
 unfolding verdict checkNode
 because-refused t r (bad-length l) = rw l refl
-because-refused t r (bad-node {n} {ds} {failing} l h m f) =
-    let step : checkNode t n ds ≡ refuse failing n = order-fails (nodeRules t n ds) n (accepted (ds ++ deriveNode t n ds ∷ [])) f in
-    let at : checkTo t (suc n) ≡ refuse failing n = turn-more (checkNode t) [] n (meets-checked t n ds m) ∙ step in
+because-refused t r (bad-node {n} {k} {ds} l h m low high smaller fails) =
+    let f = rule-first t n ds (record { not-below = low; not-above = omega arith; smaller = smaller; fails = fails }) in
+    let step : checkNode t n ds ≡ refuse k n = order-fails (nodeRules t n ds) n (accepted (ds ++ deriveNode t n ds ∷ [])) f in
+    let at : checkTo t (suc n) ≡ refuse k n = turn-more (checkNode t) [] n (meets-checked t n ds m) ∙ step in
     rw (l, turn-stays (checkNode t) [] (suc n) (nodeCount t) h at) refl
 because-refused t r (too-many {ds} l m h) = rw (l, meets-checked t (nodeCount t) ds m, lt-leb (totalOf ds) totalLimit h) refl

@@ -1,3 +1,4 @@
+pub mod ByNumber
 pub mod Accepted
 pub mod Numbers
 pub mod Nodes

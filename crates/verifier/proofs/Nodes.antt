@@ -9,21 +9,22 @@ use lib.IntN.{ℤ}
 use lib.Dec.{ltb}
 use lib.ListN.{length, getD, take, length-take, List·getD-eq-default}
 use lib.Seq.{getD-take}
+use Rattle.laws.specs.Lists.{among}
 use Rattle.laws.proofs.Booleans.{bool-cases, cond-both, and-true}
 use Rattle.laws.proofs.Induction.{each-below}
 use Rattle.plan.specs.declared.Node.{Node}
 use Rattle.plan.specs.declared.NodeNumber.{NodeNumber}
 use Rattle.plan.specs.Operations.{PERMUTE, operationCount, uses}
 use Rattle.plan.specs.Types.{contains, rangeOf}
-use Rattle.plan.specs.Words.{nodeAt, listOf}
+use Rattle.plan.specs.Words.{nodeAt, listOf, paramsBefore}
 use Rattle.shapes.specs.Rows.{isPermutation}
 use Rattle.shapes.specs.Rules.{elementLimit, shapesAgree, resultExtents}
 use Rattle.shapes.proofs.Extents.{Extents, no-extents, result-extents}
 use Rattle.bounds.specs.Rules.{resultBounds}
-use Rattle.rules.specs.Rules.{Derived, noSource, sourceOf, implies, sourcesEarlier, shapeRight, boundsInType, derivedOf}
+use Rattle.rules.specs.Rules.{Derived, noSource, sourceOf, implies, sourcesEarlier, rowsRight, shapeRight, divisorRight, boundsInType, derivedOf}
 use Rattle.rules.proofs.RowRule.{permute-rule}
 use Rattle.verifier.specs.Check.{first, second, third, countOf}
-use Rattle.verifier.specs.Meets.{NodeMeets, NodesMeet}
+use Rattle.verifier.specs.Meets.{ruleHolds, NodeMeets, NodesMeet}
 
 implied : (p q : Bool) → implies p q ≡ true → p ≡ true → q ≡ true
 implied true q e h = e
@@ -42,24 +43,41 @@ sources-before x n e =
 
 module _ (t : List ℤ) (i : ℕ) (earlier : List Derived) (d : Derived) (m : NodeMeets t i earlier d) where
   pub op-known : nodeAt t i .op < operationCount
-  op-known = ltb-true _ _ (m .rule2)
+  unfolding ruleHolds among
+  op-known = ltb-true _ _ (m .holds 2 (omega arith) (omega arith))
+
+  sources-right : sourcesEarlier (nodeAt t i) i ≡ true
+  unfolding ruleHolds among
+  sources-right = m .holds 4 (omega arith) (omega arith)
+
+  pub rows-right : rowsRight (nodeAt t i) (paramsBefore t i) (length (first (nodeAt t i) earlier .extents)) ≡ true
+  unfolding ruleHolds among
+  rows-right = m .holds 7 (omega arith) (omega arith)
+
+  shape-right : shapeRight (nodeAt t i) (first (nodeAt t i) earlier .extents) (second (nodeAt t i) earlier .extents) (third (nodeAt t i) earlier .extents) ≡ true
+  unfolding ruleHolds among
+  shape-right = m .holds 8 (omega arith) (omega arith)
+
+  pub divisor-right : divisorRight (nodeAt t i .op) (second (nodeAt t i) earlier .bounds) ≡ true
+  unfolding ruleHolds among
+  divisor-right = m .holds 10 (omega arith) (omega arith)
 
   -- "the source always being an earlier node"
   pub source1-before : uses (nodeAt t i .op) 1 ≡ true → nodeAt t i .source1 .0 < i
-  source1-before = sources-before (nodeAt t i) i (m .rule4) .0
+  source1-before = sources-before (nodeAt t i) i sources-right .0
 
   pub source2-before : uses (nodeAt t i .op) 2 ≡ true → nodeAt t i .source2 .0 < i
-  source2-before = sources-before (nodeAt t i) i (m .rule4) .1
+  source2-before = sources-before (nodeAt t i) i sources-right .1
 
   pub source3-before : uses (nodeAt t i .op) 3 ≡ true → nodeAt t i .source3 .0 < i
-  source3-before = sources-before (nodeAt t i) i (m .rule4) .2
+  source3-before = sources-before (nodeAt t i) i sources-right .2
 
   pub permutation-row : nodeAt t i .op ≡ PERMUTE → isPermutation (length (first (nodeAt t i) earlier .extents)) (listOf (nodeAt t i .rowa)) ≡ true
-  permutation-row q = permute-rule (nodeAt t i) _ _ (m .rule7) q
+  permutation-row q = permute-rule (nodeAt t i) _ _ rows-right q
 
   pub shapes-agree : shapesAgree (nodeAt t i) (first (nodeAt t i) earlier .extents) (second (nodeAt t i) earlier .extents) (third (nodeAt t i) earlier .extents) ≡ true
   unfolding shapeRight
-  shapes-agree = and-true _ _ (m .rule8) .0
+  shapes-agree = and-true _ _ shape-right .0
 
   pub extents-derived : d .extents ≡ resultExtents (nodeAt t i) (first (nodeAt t i) earlier .extents) (second (nodeAt t i) earlier .extents) (third (nodeAt t i) earlier .extents)
   unfolding derivedOf
@@ -71,12 +89,12 @@ module _ (t : List ℤ) (i : ℕ) (earlier : List Derived) (d : Derived) (m : No
   bounds-derived = ap (λ (d : Derived). d .bounds) (m .derived)
 
   pub in-type : contains (rangeOf (d .dtype)) (d .bounds) ≡ true
-  unfolding boundsInType
-  in-type = m .rule11
+  unfolding boundsInType ruleHolds among
+  in-type = rw (m .derived) (m .holds 11 (omega arith) (omega arith))
 
   pub few-elements : countOf d ≤ elementLimit
   unfolding shapeRight
-  few-elements = rw extents-derived (leb-true _ _ (and-true (shapesAgree (nodeAt t i) (first (nodeAt t i) earlier .extents) (second (nodeAt t i) earlier .extents) (third (nodeAt t i) earlier .extents)) _ (m .rule8) .1))
+  few-elements = rw extents-derived (leb-true _ _ (and-true (shapesAgree (nodeAt t i) (first (nodeAt t i) earlier .extents) (second (nodeAt t i) earlier .extents) (third (nodeAt t i) earlier .extents)) _ shape-right .1))
 
 -- ---- the sources of a node
 

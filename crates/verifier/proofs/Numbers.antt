@@ -30,10 +30,6 @@ number-of (rule k false ∷ rules) number n here =
     (leb-true 1 k (this .0), leb-true k 12 (this .1))
 number-of (rule k true ∷ rules) number n (later f) = number-of rules number (and-true (leb 1 k && leb k 12) (numbered rules) n .1) f
 
-nodes-numbered : (t : List ℤ) (n : ℕ) (ds : List Derived) → numbered (nodeRules t n ds) ≡ true
-unfolding nodeRules
-nodes-numbered t n ds = refl
-
 -- ---- a plan's nodes, and the place of a refusal
 
 -- "1 to 256 nodes"
@@ -49,5 +45,5 @@ few-nodes t e =
 -- a refusal names a rule, and a node or 0
 pub refusal-numbered : (t : List ℤ) (r : Refusal) → Refuses t r → InRange (r .number) × (r .place ≤ 256)
 refusal-numbered t r (bad-length e) = ((omega arith, omega arith), omega arith)
-refusal-numbered t r (bad-node {n} {ds} {failing} e l m f) = (number-of (nodeRules t n ds) failing (nodes-numbered t n ds) f, omega (arith, few-nodes t e .1))
+refusal-numbered t r (bad-node e l m low high smaller fails) = ((omega arith, omega arith), omega (arith, few-nodes t e .1))
 refusal-numbered t r (too-many e m l) = ((omega arith, omega arith), omega arith)
