@@ -18,15 +18,15 @@ use Rattle.guarantees.specs.Demand3.{oneIfGap, gapsBelow}
 -- ---- a buffer after a call
 
 module _ {A : Type 0} (words before : List A) where
-  written-at : (k : ℕ) (d : A) → k < length words → getD (written words before) k d ≡ getD words k d
+  pub written-at : (k : ℕ) (d : A) → k < length words → getD (written words before) k d ≡ getD words k d
   unfolding written
   written-at k d h = List·getD-append words (drop (length words) before) d k h
 
-  written-past : (n : ℕ) → length words ≡ n → drop n (written words before) ≡ drop n before
+  pub written-past : (n : ℕ) → length words ≡ n → drop n (written words before) ≡ drop n before
   unfolding written
   written-past n e = rw (← e) (drop-append-seam words (drop (length words) before))
 
-  written-length : length words ≤ length before → length (written words before) ≡ length before
+  pub written-length : length words ≤ length before → length (written words before) ≡ length before
   unfolding written
   written-length h = length-append words (drop (length words) before) ∙ omega (arith, length-drop (length words) before, h)
 

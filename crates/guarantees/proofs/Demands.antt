@@ -1,27 +1,25 @@
 -- Demand 3: the statement's premises give those of the run's laws, and these give what it promises.
-use Prim.Native.Nat.{ℕ, _+_, _-_, _*_, _%_, _<_, _≤_}
+use Prim.Native.Nat.{ℕ, _+_, _-_, _<_, _≤_}
 use mathlib.Core.Path.{_≡_, refl, ap, sym, _∙_, subst}
 use mathlib.Core.Bool.{true}
 use mathlib.Core.Logic.{_⊎_, ⊎-elim}
 use mathlib.Core.List.{List, [], _∷_}
 use native.Mathlib.Omega.{arith}
-use borrow.Author.Tests.{eqb-true, ltb-true, ltb-false}
-use lib.IntN.{ℤ, pos, negsuc}
-use lib.Dec.{eqb, ltb}
+use borrow.Author.Tests.{ltb-true, ltb-false}
+use lib.IntN.{ℤ, pos}
+use lib.Dec.{ltb}
 use lib.ListN.{length, getD, List·getD-eq-default}
 use Rattle.laws.specs.Lists.{among, occurrences, lastOr}
-use Rattle.laws.proofs.Booleans.{bool-cases, and-true}
+use Rattle.laws.proofs.Booleans.{bool-cases}
 use Rattle.laws.proofs.Lists.{last-is}
 use Rattle.plan.specs.declared.ElementNumber.{ElementNumber}
 use Rattle.plan.specs.Operations.{PARAM, IDIV, MOD}
 use Rattle.plan.specs.Types.{between, holds}
-use Rattle.plan.specs.Words.{sizeOf, nodeOf, nodeAt, nodeCount, element}
+use Rattle.plan.specs.Words.{nodeAt, nodeCount, element}
 use Rattle.plan.specs.Answers.{Outcome, accepted}
 use Rattle.plan.proofs.ByOperation.{divides-uses}
-use Rattle.plan.proofs.Decoding.{word-at}
 use Rattle.bounds.proofs.Sound.{holding}
 use Rattle.rules.specs.Rules.{Derived}
-use Rattle.verifier.specs.Check.{lengthRight}
 use Rattle.verifier.specs.Meets.{NodesMeet, PlanMeets}
 use Rattle.verifier.proofs.Accepted.{accepted-meets}
 use Rattle.verifier.proofs.Nodes.{source2-before}
@@ -35,49 +33,13 @@ use Rattle.runner.proofs.Sound.{Fed, in-bounds, in-range, no-zero-divisor}
 use Rattle.runner.proofs.Completes.{run-completes}
 use Rattle.runner.proofs.Gaps.{gaps-hide}
 use Rattle.guarantees.specs.Demand3.{Lent, ran, answer, valuesThen, flagsThen, word, elements, elementsBefore, fieldAt, resultAt, output, Proper, Completes, SafeDivisors, Safe, SameKnown, SameEnd, Demand3}
+use Rattle.guarantees.proofs.Words.{size-is, as-count, second-node, op-of, op-word, low-word, high-word}
+use Rattle.guarantees.proofs.Acceptance.{whole}
 use Rattle.guarantees.proofs.Buffers.{Counted, total-past, total-length, element-at, node-part, gaps-counted, flags-counted}
 
--- ---- the words of a node
-
--- a small count is the word itself
-size-is : (w : ℤ) (k : ℕ) → sizeOf w ≡ k → k < 256 → w ≡ pos k
-unfolding sizeOf
-size-is (pos n) k e h = ap pos e
-size-is (negsuc n) k e h = absurd (omega arith)
-
--- the fields of a node are words of the table
-module _ (t : List ℤ) (n : ℕ) where
-  op-size : nodeAt t n .op ≡ sizeOf (word t n 0)
-  unfolding nodeAt nodeOf
-  op-size = ap sizeOf (word-at t n 0 (omega arith))
-
-  second-size : nodeAt t n .source2 .0 ≡ sizeOf (word t n 2)
-  unfolding nodeAt nodeOf
-  second-size = ap sizeOf (word-at t n 2 (omega arith))
-
-  low-word : nodeAt t n .low ≡ word t n 7
-  unfolding nodeAt nodeOf
-  low-word = word-at t n 7 (omega arith)
-
-  high-word : nodeAt t n .high ≡ word t n 8
-  unfolding nodeAt nodeOf
-  high-word = word-at t n 8 (omega arith)
-
-  op-of : (k : ℕ) → word t n 0 ≡ pos k → nodeAt t n .op ≡ k
-  unfolding sizeOf
-  op-of k e = op-size ∙ rw e refl
-
-  op-word : (k : ℕ) → nodeAt t n .op ≡ k → k < 256 → word t n 0 ≡ pos k
-  op-word k e h = size-is (word t n 0) k (sym op-size ∙ e) h
-
-  divides : (word t n 0 ≡ pos IDIV) ⊎ (word t n 0 ≡ pos MOD) → among (nodeAt t n .op) (IDIV ∷ MOD ∷ []) ≡ true
-  unfolding among
-  divides = ⊎-elim (λ e. rw (op-of IDIV e) refl) (λ e. rw (op-of MOD e) refl)
-
--- rule 1: no words are left over
-whole-nodes : (t : List ℤ) → lengthRight t ≡ true → 17 * nodeCount t ≡ length t
-unfolding lengthRight nodeCount
-whole-nodes t e = omega (arith, eqb-true (length t % 17) 0 (and-true (eqb (length t % 17) 0) _ e .0))
+divides : (t : List ℤ) (n : ℕ) → (word t n 0 ≡ pos IDIV) ⊎ (word t n 0 ≡ pos MOD) → among (nodeAt t n .op) (IDIV ∷ MOD ∷ []) ≡ true
+unfolding among
+divides t n = ⊎-elim (λ e. rw (op-of t n IDIV e) refl) (λ e. rw (op-of t n MOD e) refl)
 
 -- ---- one run
 
@@ -119,7 +81,7 @@ module _ (t : List ℤ) (ds : List Derived) (x : Lent) (h : Proper t ds x) where
       passes-at p (w .param) (w .element) total (w .before) (w .is-param) (w .inside) (w .place)
 
   -- so none of 13 to 16 is due
-  completed : ran t x ≡ accepted (fieldsOf t ds (x .values) (x .flags))
+  pub completed : ran t x ≡ accepted (fieldsOf t ds (x .values) (x .flags))
   completed =
       let limits-long = limits-length t ds in
       run-completes t ds (x .values) (x .flags) (length (x .valueBuffer)) (length (x .flagBuffer)) (h .accepts) (h .values-length ∙ sym limits-long) (h .flags-length ∙ sym limits-long) (h .value-room) (h .flag-room)
@@ -160,7 +122,7 @@ module _ (t : List ℤ) (ds : List Derived) (x : Lent) (h : Proper t ds x) where
         zero-flags = gap-count
             ∙ flags-counted (fieldAt t ds x (output ds) .cells)
             ∙ rw completed (ap (occurrences 0) (sym (node-part fs ds counted flagOf (x .flagBuffer) (output ds) some-node (h .flag-room))));
-        every-node = rw (plan .nodes .as-many) (whole-nodes t (plan .length-right));
+        every-node = rw (plan .nodes .as-many) (sym (whole t (plan .length-right) .words));
         as-many = counted .as-many;
         output-there = some-node;
         known-written = λ n e z l q k. (value-at n e l q ∙ ap valueOf k, flag-at n e l q ∙ ap flagOf k);
@@ -179,7 +141,7 @@ module _ (t : List ℤ) (ds : List Derived) (x : Lent) (h : Proper t ds x) where
         let s : nodeAt t n .source2 .0 < n = source2-before t n _ _ (met .each n l) (divides-uses (nodeAt t n .op) a) in
         record {
           second = nodeAt t n .source2 .0;
-          is-second = size-is (word t n 2) (nodeAt t n .source2 .0) (sym (second-size t n)) (omega (arith, s, l, plan .nodes .as-many, several .1));
+          is-second = size-is (word t n 2) (nodeAt t n .source2 .0) (as-count (word t n 2) ∙ sym (second-node t n)) (omega (arith, s, l, plan .nodes .as-many, several .1));
           earlier = s;
           not-zero = no-zero-divisor t (length ds) ds met (inputCells (x .values) (x .flags)) fed n l a;
         }

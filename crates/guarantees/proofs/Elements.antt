@@ -1,41 +1,29 @@
 -- What each node holds and reads.
 use Prim.Native.Nat.{ℕ, _<_}
-use mathlib.Core.Path.{_≡_, refl, ap, sym, _∙_, subst}
+use mathlib.Core.Path.{_≡_, refl, _∙_}
 use mathlib.Core.Bool.{true}
 use mathlib.Core.List.{List}
-use native.Mathlib.Omega.{arith}
 use lib.IntN.{ℤ}
 use lib.ListN.{length, getD, take}
 use Rattle.laws.specs.Lists.{among}
 use Rattle.laws.specs.Numbering.{count}
-use Rattle.plan.specs.declared.NodeNumber.{NodeNumber}
 use Rattle.plan.specs.declared.ElementNumber.{ElementNumber}
-use Rattle.plan.specs.Operations.{WHERE, REDUCE, followed, binaries}
-use Rattle.plan.specs.Words.{nodeAt, nodeCount, listOf}
+use Rattle.plan.specs.Operations.{WHERE, REDUCE, binaries}
+use Rattle.plan.specs.Words.{nodeAt, listOf}
 use Rattle.plan.specs.Answers.{accepted}
 use Rattle.shapes.specs.Rules.{reduced, resultExtents}
-use Rattle.shapes.proofs.Extents.{Extents, no-extents}
 use Rattle.shapes.proofs.Broadcast.{Spreads, spread-below, binary-spreads, where-spreads}
-use Rattle.shapes.proofs.Sources.{source-below, gathered-some, gathered-below}
-use Rattle.rules.specs.Rules.{Derived, noSource, sourceOf}
+use Rattle.shapes.proofs.Sources.{gathered-some, gathered-below}
+use Rattle.shapes.proofs.Coordinates.{source-below}
+use Rattle.rules.specs.Rules.{Derived, noSource}
 use Rattle.verifier.specs.Check.{first, second, third, countOf, verdict}
-use Rattle.verifier.specs.Meets.{NodeMeets, NodesMeet, PlanMeets}
-use Rattle.verifier.proofs.Accepted.{accepted-meets}
-use Rattle.verifier.proofs.Nodes.{permutation-row, shapes-agree, extents-derived, source-has, extents-at}
+use Rattle.verifier.proofs.Nodes.{permutation-row, shapes-agree, extents-derived}
 use Rattle.cells.specs.Cells.{Cell}
-use Rattle.runner.proofs.Fields.{field-count}
-use Rattle.guarantees.specs.Elements.{ReadsInside, NodeElements, EveryElement}
+use Rattle.runner.proofs.Fields.{field-count, field-cell}
+use Rattle.guarantees.proofs.Nodes.{rules, source-extents}
+use Rattle.guarantees.specs.Elements.{ReadsInside, EveryElement}
 
 module _ (t : List ℤ) (ds : List Derived) (input : List Cell) (n : ℕ) (v : verdict t ≡ accepted ds) (h : n < length ds) where
-  plan : PlanMeets t ds
-  plan = accepted-meets t ds v
-
-  below : n < nodeCount t
-  below = rw (plan .nodes .as-many) at h
-
-  rules : NodeMeets t n (take n ds) (getD ds n noSource)
-  rules = plan .nodes .each n below
-
   abbrev a : Derived
   a = first (nodeAt t n) (take n ds)
 
@@ -48,13 +36,8 @@ module _ (t : List ℤ) (ds : List Derived) (input : List Cell) (n : ℕ) (v : v
   abbrev d : Derived
   d = getD ds n noSource
 
-  -- the extents of its sources
-  source-extents : (k : ℕ) (s : NodeNumber) → Extents (sourceOf (take n ds) (nodeAt t n .op) k s .extents)
-  source-extents k s =
-      source-has (λ (d : Derived). Extents (d .extents)) ds n no-extents (λ j q. extents-at t (nodeCount t) ds (plan .nodes) j (omega (arith, below))) (nodeAt t n .op) k s
-
   shape : getD ds n noSource .extents ≡ resultExtents (nodeAt t n) (first (nodeAt t n) (take n ds) .extents) (second (nodeAt t n) (take n ds) .extents) (third (nodeAt t n) (take n ds) .extents)
-  shape = extents-derived t n (take n ds) (getD ds n noSource) rules
+  shape = extents-derived t n (take n ds) (getD ds n noSource) (rules t ds v n h)
 
   module _ (e : ElementNumber) (l : e .0 < countOf (getD ds n noSource)) where
     inside : (s : Derived) → Spreads (s .extents) (resultExtents (nodeAt t n) (a .extents) (b .extents) (c .extents)) → ReadsInside s (getD ds n noSource) e
@@ -62,14 +45,14 @@ module _ (t : List ℤ) (ds : List Derived) (input : List Cell) (n : ℕ) (v : v
 
     two : among (nodeAt t n .op) binaries ≡ true → ReadsInside (first (nodeAt t n) (take n ds)) (getD ds n noSource) e × ReadsInside (second (nodeAt t n) (take n ds)) (getD ds n noSource) e
     two q =
-        let f = binary-spreads (nodeAt t n) (a .extents) (b .extents) (c .extents) (source-extents 1 (nodeAt t n .source1) .positive) (source-extents 2 (nodeAt t n .source2) .positive) (shapes-agree t n (take n ds) d rules) q in
+        let f = binary-spreads (nodeAt t n) (a .extents) (b .extents) (c .extents) (source-extents t ds v n h 1 (nodeAt t n .source1) .positive) (source-extents t ds v n h 2 (nodeAt t n .source2) .positive) (shapes-agree t n (take n ds) d (rules t ds v n h)) q in
         (inside a (f .0), inside b (f .1))
 
     three : nodeAt t n .op ≡ WHERE → ReadsInside (first (nodeAt t n) (take n ds)) (getD ds n noSource) e × ReadsInside (second (nodeAt t n) (take n ds)) (getD ds n noSource) e
         × ReadsInside (third (nodeAt t n) (take n ds)) (getD ds n noSource) e
     three q =
-        let f = where-spreads (nodeAt t n) (a .extents) (b .extents) (c .extents) (source-extents 1 (nodeAt t n .source1) .positive) (source-extents 2 (nodeAt t n .source2) .positive) (shapes-agree t n (take n ds) d rules)
-        (source-extents 3 (nodeAt t n .source3) .positive) q in
+        let f = where-spreads (nodeAt t n) (a .extents) (b .extents) (c .extents) (source-extents t ds v n h 1 (nodeAt t n .source1) .positive) (source-extents t ds v n h 2 (nodeAt t n .source2) .positive) (shapes-agree t n (take n ds) d (rules t ds v n h))
+        (source-extents t ds v n h 3 (nodeAt t n .source3) .positive) q in
         (inside a (f .0), inside b (f .1), inside c (f .2))
 
     reduces : nodeAt t n .op ≡ REDUCE → e .0 < count (reduced (first (nodeAt t n) (take n ds) .extents) (listOf (nodeAt t n .rowa)))
@@ -82,13 +65,14 @@ pub every-element : EveryElement
 every-element t ds input n v h =
     record {
       as-many = field-count t ds input (length ds) n h;
+      cells = field-cell t ds input (length ds) n h;
       moves = λ f e l.
-          source-below (nodeAt t n) _ _ _ (getD ds n noSource .extents) e (shapes-agree t n (take n ds) _ (rules t ds input n v h)) (shape t ds input n v h)
-          (permutation-row t n (take n ds) _ (rules t ds input n v h)) l f;
+          source-below (nodeAt t n) _ _ _ (getD ds n noSource .extents) e (shapes-agree t n (take n ds) _ (rules t ds v n h)) (shape t ds input n v h)
+          (permutation-row t n (take n ds) _ (rules t ds v n h)) l f;
       broadcasts = λ q e l. two t ds input n v h e l q;
       chooses = λ q e l. three t ds input n v h e l q;
       gathers = λ q e l. (
-        gathered-some _ (listOf (nodeAt t n .rowa)) e (source-extents t ds input n v h 1 (nodeAt t n .source1) .positive),
+        gathered-some _ (listOf (nodeAt t n .rowa)) e (source-extents t ds v n h 1 (nodeAt t n .source1) .positive),
         λ i g. gathered-below _ (listOf (nodeAt t n .rowa)) e i (reduces t ds input n v h e l q) g,
       );
     }

@@ -3,8 +3,8 @@
 use Prim.Native.Nat.{ℕ, zero, suc, _+_, _-_, _*_, _<_, _≤_}
 use mathlib.Core.Path.{_≡_}
 use mathlib.Core.Logic.{_⊎_}
-use mathlib.Core.List.{List}
-use lib.IntN.{ℤ, pos}
+use mathlib.Core.List.{List, [], _∷_}
+use lib.IntN.{ℤ, pos, negsuc}
 use lib.Signed.{_≤ℤ_}
 use lib.ListN.{length, getD, take, drop}
 use Rattle.laws.specs.Lists.{occurrences}
@@ -47,6 +47,15 @@ flagsThen t x = flagsAfter (ran t x) (x .flagBuffer)
 -- "each of 17 signed 64-bit words": word k of node n
 abbrev pub word : List ℤ → ℕ → ℕ → ℤ
 word t n k = getD t (17 * n + k) (pos 0)
+
+-- a word as a count: itself, and 2^64 − 1 for a negative one, more than the paper lets any count be
+abbrev pub asCount : ℤ → ℕ
+asCount (pos z) = z
+asCount (negsuc z) = 18446744073709551615
+
+-- "9 to 12 row A; 13 to 16 row B": the row of node n that begins with word k
+abbrev pub rowFrom : List ℤ → ℕ → ℕ → List ℕ
+rowFrom t n k = asCount (word t n k) ∷ asCount (word t n (k + 1)) ∷ asCount (word t n (k + 2)) ∷ asCount (word t n (k + 3)) ∷ []
 
 -- the number of elements of node n, and of the nodes before it
 abbrev pub elements : List Derived → ℕ → ℕ

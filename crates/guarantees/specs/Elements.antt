@@ -13,8 +13,9 @@ use Rattle.plan.specs.Answers.{accepted}
 use Rattle.shapes.specs.Sources.{sourceElement, Below, broadcastSource, gathered}
 use Rattle.rules.specs.Rules.{Derived, noSource}
 use Rattle.verifier.specs.Check.{first, second, third, countOf, verdict}
-use Rattle.cells.specs.Cells.{Cell}
-use Rattle.runner.specs.Run.{noField, fieldsTo}
+use Rattle.cells.specs.Cells.{Cell, cellAt}
+use Rattle.cells.specs.Nodes.{evalCell}
+use Rattle.runner.specs.Run.{noField, operandsOf, fieldsTo}
 
 -- element e of a source, under a broadcast result of node n, is one of the source's
 abbrev pub ReadsInside : Derived → Derived → ElementNumber → Type 0
@@ -24,6 +25,9 @@ ReadsInside source d e = broadcastSource (source .extents) (d .extents) e .0 < c
 pub record NodeElements (t : List ℤ) (ds : List Derived) (input : List Cell) (n : ℕ) : Type 0 where
   -- the node's field has exactly its count of cells
   pub as-many : length (getD (fieldsTo t ds input (length ds)) n noField .cells) ≡ countOf (getD ds n noSource)
+  -- each is what the node's words and its sources' fields give
+  pub cells : (e : ElementNumber) → e .0 < countOf (getD ds n noSource) → cellAt (getD (fieldsTo t ds input (length ds)) n noField) e
+      ≡ evalCell (nodeAt t n) (getD ds n noSource .extents) (operandsOf t ds input n (fieldsTo t ds input n)) e
   -- a movement reads inside its source
   pub moves : among (nodeAt t n .op) followed ≡ true → (e : ElementNumber) → e .0 < countOf (getD ds n noSource)
       → Below (countOf (first (nodeAt t n) (take n ds))) (sourceElement (nodeAt t n) (first (nodeAt t n) (take n ds) .extents) (getD ds n noSource .extents) e)

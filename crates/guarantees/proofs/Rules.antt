@@ -1,0 +1,598 @@
+-- The rules by their tests and in the paper's words.
+use Prim.Native.Nat.{ℕ, zero, suc, _+_, _-_, _<_, _≤_}
+use mathlib.Core.Path.{_≡_, refl, ap, sym, _∙_}
+use mathlib.Core.Bool.{Bool, true, false, _&&_, not, cond, false≢true, true≢false}
+use mathlib.Core.Logic.{_⊎_, inl, inr, ⊎-elim}
+use mathlib.Core.List.{List, [], _∷_}
+use native.Mathlib.Omega.{arith}
+use borrow.Author.Tests.{eqb-true, eqb-false, eq-eqb, ne-eqb, ltb-true, ltb-false, lt-ltb, leb-true, le-leb}
+use lib.IntN.{ℤ, pos}
+use lib.Signed.{_≤ℤ_, _<ℤ_, leZ}
+use lib.Dec.{eqb, ltb, leb}
+use lib.ListN.{length, getD}
+use Rattle.laws.specs.Lists.{allBelow, among}
+use Rattle.laws.specs.Numbering.{count}
+use Rattle.laws.proofs.Booleans.{bool-cases, and-true, and-true-of, or-true, all-below, all-below-of}
+use Rattle.laws.proofs.Parts.{of-le, leZ-true, le-leZ}
+use Rattle.plan.specs.declared.Interval.{Interval}
+use Rattle.plan.specs.declared.NodeNumber.{NodeNumber}
+use Rattle.plan.specs.Operations.{uses}
+use Rattle.plan.specs.Types.{holds, contains, rangeOf}
+use Rattle.plan.specs.Words.{sizeOf, nodeAt, paramsBefore, listOf}
+use Rattle.shapes.specs.Rows.{isShapeRow, isFlagRow, isOffsetRow, isPermutation}
+use Rattle.shapes.specs.Rules.{shapesAgree}
+use Rattle.plan.proofs.ByOperation.{_then_, for-range}
+use Rattle.plan.proofs.Decoding.{word-at}
+use Rattle.bounds.proofs.Sound.{held, holding}
+use Rattle.rules.specs.Rules.{Derived, sourceOf, implies, unusedZero, sourcesEarlier, typeNamed, typesAgree, deviceNamed, paramRight, rowsRight, shapeRight, oneDevice, joinDevice, devicesAgree, divisorRight, boundsInType, derivedOf}
+use Rattle.rules.proofs.RowRule.{rows-const, rows-param, rows-permute, rows-flip, rows-shape, rows-offset, rows-any, rows-reduce, rows-load}
+use Rattle.rules.proofs.TypeRule.{types-any, types-arithmetic, types-differ, types-logical, types-where, types-reduce, types-load}
+use Rattle.verifier.specs.Check.{first, second, third, deriveNode}
+use Rattle.verifier.specs.Meets.{ruleHolds}
+use Rattle.verifier.proofs.Nodes.{sources-before}
+use Rattle.guarantees.specs.Demand3.{word, asCount}
+use Rattle.guarantees.specs.Rules.{Exactly, From, usesWord, source, Rule2, Rule3, Rule4, Rule5, Rule6, RowOf, ShapeRow, PermutationRow, Rule7, IsRow, Rule8, Rule9, Rule10, Rule11, RulesSay}
+use Rattle.guarantees.proofs.Words.{size-is, as-count, op-size, op-of, low-word, high-word, first-node, second-node, third-node, dtype-size, device-size, number-word, row-a-at, row-b-at}
+use Rattle.guarantees.proofs.RowWords.{size-from, from-size, size-from-1, from-1-size, size-zero, size-below, below-size, flags-say, offsets-say, shape-says, row-is, permutation-says}
+use Rattle.guarantees.proofs.ShapeWords.{shapes-say}
+
+-- ---- tests
+
+implied : (p q : Bool) → implies p q ≡ true → p ≡ true → q ≡ true
+implied true q e h = e
+implied false q e h = absurd (false≢true h)
+
+implied-of : (p q : Bool) → (p ≡ true → q ≡ true) → implies p q ≡ true
+implied-of true q h = h refl
+implied-of false q h = refl
+
+not-false : {b : Bool} → b ≡ true → b ≡ false → ⊥
+not-false e f = true≢false (sym e ∙ f)
+
+-- two tests say the same
+abbrev alike : Bool → Bool → Bool
+alike a b = cond a b (not b)
+
+alike-is : (a b : Bool) → alike a b ≡ true → a ≡ b
+alike-is true b e = sym e
+alike-is false true e = absurd (false≢true e)
+alike-is false false e = refl
+
+-- ---- "words used", by operation and by word
+
+tables-agree : allBelow 21 (λ (o : ℕ). allBelow 16 (λ (k : ℕ). alike (uses o (suc k)) (usesWord o (suc k)))) ≡ true
+unfolding allBelow uses among
+tables-agree = refl
+
+pub same-users : (o k : ℕ) → o ≤ 20 → 1 ≤ k → k ≤ 16 → uses o k ≡ usesWord o k
+same-users o zero h a b = absurd (omega arith)
+same-users o (suc k) h a b =
+    alike-is (uses o (suc k)) (usesWord o (suc k))
+    (all-below 16 (λ (k : ℕ). alike (uses o (suc k)) (usesWord o (suc k))) (all-below 21 (λ (o : ℕ). allBelow 16 (λ (k : ℕ). alike (uses o (suc k)) (usesWord o (suc k)))) tables-agree o (omega arith)) k (omega arith))
+
+-- ---- the operations by the rows of rule 6
+
+data Row6 (o : ℕ) : Type 0 where
+  any : (o < 9) ⊎ (o ≡ 20) → Row6 o
+  arithmetic : 9 ≤ o → o ≤ 14 → Row6 o
+  differs : o ≡ 15 → Row6 o
+  logical : (o ≡ 16) ⊎ (o ≡ 17) → Row6 o
+  chooses : o ≡ 18 → Row6 o
+  reduces : o ≡ 19 → Row6 o
+
+which : (o : ℕ) → o ≤ 20 → Row6 o
+which o h =
+    for-range Row6 o 0 21
+    (any (inl (omega arith)) then any (inl (omega arith)) then any (inl (omega arith)) then any (inl (omega arith)) then any (inl (omega arith)) then any (inl (omega arith)) then any (inl (omega arith)) then any (inl (omega arith)) then any (inl (omega arith))
+    then arithmetic (omega arith) (omega arith) then arithmetic (omega arith) (omega arith) then arithmetic (omega arith) (omega arith) then arithmetic (omega arith) (omega arith) then arithmetic (omega arith) (omega arith) then arithmetic (omega arith) (omega arith)
+    then differs refl then logical (inl refl) then logical (inr refl) then chooses refl then reduces refl then any (inr refl) then tt) (omega arith) (omega arith)
+
+-- the same of rule 7
+data Row7 (o : ℕ) : Type 0 where
+  constant : o ≡ 0 → Row7 o
+  given : o ≡ 1 → Row7 o
+  permutes : o ≡ 2 → Row7 o
+  flips : o ≡ 3 → Row7 o
+  shapes : 4 ≤ o → o ≤ 5 → Row7 o
+  places : (o ≡ 6) ⊎ (o ≡ 7) → Row7 o
+  free : 8 ≤ o → o ≤ 18 → Row7 o
+  reduces : o ≡ 19 → Row7 o
+  loads : o ≡ 20 → Row7 o
+
+which-7 : (o : ℕ) → o ≤ 20 → Row7 o
+which-7 o h =
+    for-range Row7 o 0 21
+    (constant refl then given refl then permutes refl then flips refl then shapes (omega arith) (omega arith) then shapes (omega arith) (omega arith) then places (inl refl) then places (inr refl)
+    then free (omega arith) (omega arith) then free (omega arith) (omega arith) then free (omega arith) (omega arith) then free (omega arith) (omega arith) then free (omega arith) (omega arith) then free (omega arith) (omega arith)
+    then free (omega arith) (omega arith) then free (omega arith) (omega arith) then free (omega arith) (omega arith) then free (omega arith) (omega arith) then free (omega arith) (omega arith) then reduces refl then loads refl then tt) (omega arith) (omega arith)
+
+-- ---- rule 9, of three devices
+
+abbrev pub Share : ℕ → ℕ → Type 0
+Share d e = (d ≡ 0) ⊎ ((e ≡ 0) ⊎ (d ≡ e))
+
+one-share : (d e : ℕ) → oneDevice d e ≡ true → Share d e
+unfolding oneDevice
+one-share d e q = or-true (eqb d 0) _ q (λ z. inl (eqb-true d 0 z)) (λ z. or-true (eqb e 0) _ z (λ y. inr (inl (eqb-true e 0 y))) (λ y. inr (inr (eqb-true d e y))))
+
+share-one : (d e : ℕ) → Share d e → oneDevice d e ≡ true
+unfolding oneDevice
+share-one d e =
+    ⊎-elim (λ z. rw z refl)
+    (⊎-elim (λ z. rw z (bool-cases (eqb d 0) (λ y. rw y refl) (λ y. rw y refl)))
+    (λ z. rw z (bool-cases (eqb e 0) (λ y. rw y refl) (λ y. rw (y, eq-eqb e e refl) refl))))
+
+pub agree-pairs : (d e f : ℕ) → devicesAgree d e f ≡ true → Share d e × Share d f × Share e f
+unfolding devicesAgree joinDevice
+agree-pairs d e f q =
+    let w = and-true (oneDevice d e) _ q in
+    let first = one-share d e (w .0) in
+    bool-cases (eqb d 0)
+    (λ z. let y = eqb-true d 0 z in (first, inl y, one-share e f (rw z at (w .1))))
+    (λ z.
+    let last = one-share d f (rw z at (w .1)) in
+    (first, last, ⊎-elim (λ y. absurd (eqb-false d 0 z y)) (⊎-elim (λ y. inl y) (λ y. rw y at last)) first))
+
+pairs-agree : (d e f : ℕ) → Share d e → Share d f → Share e f → devicesAgree d e f ≡ true
+unfolding devicesAgree joinDevice
+pairs-agree d e f a b c =
+    and-true-of _ _ (share-one d e a) (bool-cases (eqb d 0) (λ z. rw z (share-one e f c)) (λ z. rw z (share-one d f b)))
+
+-- ---- rule 11, of a type and an interval
+
+-- both ends of an interval lie in a range
+ends : (r b : Interval) → Exactly (contains r b ≡ true) (From (r .low) (r .high) (b .low) × From (r .low) (r .high) (b .high))
+unfolding contains
+ends r b = (
+  λ e. let w = and-true (holds r (b .low)) (holds r (b .high)) e in let l = held r (b .low) (w .0) in let g = held r (b .high) (w .1) in ((l .low, l .high), (g .low, g .high)),
+  λ w. and-true-of _ _ (holding r (b .low) (record { low = w .0 .0; high = w .0 .1 })) (holding r (b .high) (record { low = w .1 .0; high = w .1 .1 })),
+)
+
+ranges : (d : ℕ) (b : Interval) → d ≤ 3 → Exactly (contains (rangeOf d) b ≡ true) (Rule11 d (b .low) (b .high))
+unfolding rangeOf
+ranges zero b h = let w = ends (rangeOf 0) b in (λ e. record { bool = λ q. w .0 e; u8 = λ q. absurd (omega (arith, q)); i16 = λ q. absurd (omega (arith, q)); i32 = λ q. absurd (omega (arith, q)) }, λ r. w .1 (r .bool refl))
+ranges (suc zero) b h = let w = ends (rangeOf 1) b in (λ e. record { bool = λ q. absurd (omega (arith, q)); u8 = λ q. w .0 e; i16 = λ q. absurd (omega (arith, q)); i32 = λ q. absurd (omega (arith, q)) }, λ r. w .1 (r .u8 refl))
+ranges (suc (suc zero)) b h = let w = ends (rangeOf 2) b in (λ e. record { bool = λ q. absurd (omega (arith, q)); u8 = λ q. absurd (omega (arith, q)); i16 = λ q. w .0 e; i32 = λ q. absurd (omega (arith, q)) }, λ r. w .1 (r .i16 refl))
+ranges (suc (suc (suc zero))) b h = let w = ends (rangeOf 3) b in (λ e. record { bool = λ q. absurd (omega (arith, q)); u8 = λ q. absurd (omega (arith, q)); i16 = λ q. absurd (omega (arith, q)); i32 = λ q. w .0 e }, λ r. w .1 (r .i32 refl))
+ranges (suc (suc (suc (suc d)))) b h = absurd (omega arith)
+
+-- ---- rules 2 to 5
+
+module _ (t : List ℤ) (n : ℕ) (earlier : List Derived) where
+  says-2 : Exactly (ruleHolds t n earlier 2 ≡ true) (Rule2 t n)
+  unfolding ruleHolds among
+  says-2 =
+      (λ e. size-from (word t n 0) 20 (omega arith) (omega (arith, ltb-true (nodeAt t n .op) 21 e, op-size t n)), λ h. lt-ltb (nodeAt t n .op) 21 (omega (arith, from-size (word t n 0) 20 h, op-size t n)))
+
+  module _ (o : ℕ) (q : word t n 0 ≡ pos o) (known : o ≤ 20) where
+    pub op-is : nodeAt t n .op ≡ o
+    op-is = op-of t n o q
+
+    pub used : (k : ℕ) → 1 ≤ k → k ≤ 16 → uses (nodeAt t n .op) k ≡ usesWord o k
+    used k a b = rw op-is (same-users o k known a b)
+
+    says-3 : Exactly (ruleHolds t n earlier 3 ≡ true) (Rule3 t n o)
+    unfolding ruleHolds unusedZero among sizeOf
+    says-3 = (
+      λ e k a b f.
+          or-true (eqb k 0) _ (all-below 17 _ e k (omega arith))
+          (λ z. absurd (omega (arith, eqb-true k 0 z)))
+          (λ z. or-true (uses (nodeAt t n .op) k) _ z
+          (λ u. absurd (not-false u (used k a b ∙ f)))
+          (λ w. size-zero (word t n k) (ap sizeOf (sym (word-at t n k (omega arith))) ∙ eqb-true _ 0 w))),
+      λ h. all-below-of 17 _ (λ k l.
+          bool-cases (eqb k 0) (λ z. rw z refl) (λ z. rw z
+          (bool-cases (uses (nodeAt t n .op) k) (λ u. rw u refl)
+          (λ u. rw u (eq-eqb _ 0 (ap sizeOf (word-at t n k l ∙ h k (some k z) (omega arith) (sym (used k (some k z) (omega arith)) ∙ u)))))))),
+    )
+      where
+        some : (k : ℕ) → eqb k 0 ≡ false → 1 ≤ k
+        some zero z = absurd (eqb-false 0 0 z refl)
+        some (suc k) z = omega arith
+
+    says-4 : n ≤ 256 → Exactly (ruleHolds t n earlier 4 ≡ true) (Rule4 t n o)
+    unfolding ruleHolds sourcesEarlier among
+    says-4 few = (
+      λ e k a b u.
+          let s = sources-before (nodeAt t n) n e in
+          for-range (λ (j : ℕ). usesWord o j ≡ true → (pos 0 ≤ℤ word t n j) × (word t n j <ℤ pos n)) k 1 3
+          ((λ w. size-below (word t n 1) n few (rw (first-node t n, ← as-count (word t n 1)) at (s .0 (used 1 (omega arith) (omega arith) ∙ w))))
+          then (λ w. size-below (word t n 2) n few (rw (second-node t n, ← as-count (word t n 2)) at (s .1 (used 2 (omega arith) (omega arith) ∙ w))))
+          then (λ w. size-below (word t n 3) n few (rw (third-node t n, ← as-count (word t n 3)) at (s .2 (used 3 (omega arith) (omega arith) ∙ w))))
+          then tt) a (omega arith) u,
+      λ h.
+          and-true-of _ _ (implied-of (uses (nodeAt t n .op) 1) _ (λ u. lt-ltb _ n (rw (first-node t n, ← as-count (word t n 1)) (below-size (word t n 1) n (h 1 (omega arith) (omega arith) (sym (used 1 (omega arith) (omega arith)) ∙ u))))))
+          (and-true-of _ _ (implied-of (uses (nodeAt t n .op) 2) _ (λ u. lt-ltb _ n (rw (second-node t n, ← as-count (word t n 2)) (below-size (word t n 2) n (h 2 (omega arith) (omega arith) (sym (used 2 (omega arith) (omega arith)) ∙ u))))))
+          (implied-of (uses (nodeAt t n .op) 3) _ (λ u. lt-ltb _ n (rw (third-node t n, ← as-count (word t n 3)) (below-size (word t n 3) n (h 3 (omega arith) (omega arith) (sym (used 3 (omega arith) (omega arith)) ∙ u))))))),
+    )
+
+    says-5 : Exactly (ruleHolds t n earlier 5 ≡ true) (Rule5 t n o)
+    unfolding ruleHolds typeNamed among
+    says-5 = (
+      λ e u. size-from (word t n 4) 3 (omega arith) (rw (dtype-size t n) at (leb-true (nodeAt t n .dtype) 3 (implied (uses (nodeAt t n .op) 4) _ e (used 4 (omega arith) (omega arith) ∙ u)))),
+      λ h. implied-of (uses (nodeAt t n .op) 4) _ (λ u. le-leb (nodeAt t n .dtype) 3 (rw (dtype-size t n) (from-size (word t n 4) 3 (h (sym (used 4 (omega arith) (omega arith)) ∙ u))))),
+    )
+
+    -- ---- the sources' records
+
+    pub first-is : usesWord o 1 ≡ true → first (nodeAt t n) earlier ≡ source t n earlier 1
+    unfolding sourceOf
+    first-is u = rw (used 1 (omega arith) (omega arith), u, first-node t n) refl
+
+    pub second-is : usesWord o 2 ≡ true → second (nodeAt t n) earlier ≡ source t n earlier 2
+    unfolding sourceOf
+    second-is u = rw (used 2 (omega arith) (omega arith), u, second-node t n) refl
+
+    pub third-is : usesWord o 3 ≡ true → third (nodeAt t n) earlier ≡ source t n earlier 3
+    unfolding sourceOf
+    third-is u = rw (used 3 (omega arith) (omega arith), u, third-node t n) refl
+
+    -- operations 2 on use word 1, 9 to 18 word 2, and 18 word 3
+    pub uses-1 : 2 ≤ o → usesWord o 1 ≡ true
+    unfolding among
+    uses-1 h =
+        for-range (λ (k : ℕ). usesWord k 1 ≡ true) o 2 19
+        (refl then refl then refl then refl then refl then refl then refl then refl then refl then refl then refl then refl then refl then refl then refl then refl then refl then refl then refl then tt) h (omega arith)
+
+    pub uses-2 : 9 ≤ o → o ≤ 18 → usesWord o 2 ≡ true
+    unfolding among
+    uses-2 h k = for-range (λ (k : ℕ). usesWord k 2 ≡ true) o 9 10 (refl then refl then refl then refl then refl then refl then refl then refl then refl then refl then tt) h (omega arith)
+
+    pub uses-3 : o ≡ 18 → usesWord o 3 ≡ true
+    unfolding among
+    uses-3 e = rw e refl
+
+    -- ---- rule 6
+
+    abbrev a : ℕ
+    a = source t n earlier 1 .dtype
+
+    abbrev b : ℕ
+    b = source t n earlier 2 .dtype
+
+    abbrev c : ℕ
+    c = source t n earlier 3 .dtype
+
+    test-6 : 2 ≤ o → ruleHolds t n earlier 6 ≡ typesAgree o (source t n earlier 1 .dtype) (second (nodeAt t n) earlier .dtype) (third (nodeAt t n) earlier .dtype)
+    unfolding ruleHolds among
+    test-6 h = rw (first-is (uses-1 h), op-is) refl
+
+    untyped : true ≡ typesAgree (nodeAt t n .op) (first (nodeAt t n) earlier .dtype) (second (nodeAt t n) earlier .dtype) (third (nodeAt t n) earlier .dtype) → ruleHolds t n earlier 6 ≡ true
+    unfolding ruleHolds among
+    untyped e = sym e
+
+    two-types : 9 ≤ o → o ≤ 17 → ruleHolds t n earlier 6 ≡ typesAgree o (source t n earlier 1 .dtype) (source t n earlier 2 .dtype) (third (nodeAt t n) earlier .dtype)
+    two-types h k = test-6 (omega arith) ∙ rw (second-is (uses-2 h (omega arith))) refl
+
+    says-6 : Exactly (ruleHolds t n earlier 6 ≡ true) (Rule6 o (source t n earlier 1 .dtype) (source t n earlier 2 .dtype) (source t n earlier 3 .dtype))
+    says-6 = (
+      λ e.
+          record {
+            arithmetic = λ h k. let w = and-true (eqb a b) _ (types-arithmetic o a b _ h (omega arith) ∙ sym (two-types h (omega arith)) ∙ e) in (eqb-true a b (w .0), λ z. false≢true (rw z at (w .1)));
+            differs = λ h. eqb-true a b (types-differ o a b _ h ∙ sym (two-types (omega (arith, h)) (omega (arith, h))) ∙ e);
+            logical = λ h. let w = and-true (eqb a b) (eqb a 0) (types-logical o a b _ (at-least h) (λ z. absurd (omega (arith, z, past h))) (at-most h) ∙ sym (two-types (omega (arith, at-least h)) (omega (arith, at-most h))) ∙ e) in (eqb-true a 0 (w .1), sym (eqb-true a b (w .0)) ∙ eqb-true a 0 (w .1));
+            chooses = λ h. let w = and-true (eqb a 0) (eqb b c) (types-where o a b c h ∙ sym (three-types h) ∙ e) in (eqb-true a 0 (w .0), eqb-true b c (w .1));
+            reduces = λ h z. false≢true (rw z at (types-reduce o a _ _ h ∙ sym (test-6 (omega (arith, h))) ∙ e));
+          },
+      λ r. decided r (which o known),
+    )
+      where
+        at-least : (o ≡ 16) ⊎ (o ≡ 17) → 15 ≤ o
+        at-least = ⊎-elim (λ z. omega (arith, z)) (λ z. omega (arith, z))
+
+        past : (o ≡ 16) ⊎ (o ≡ 17) → 16 ≤ o
+        past = ⊎-elim (λ z. omega (arith, z)) (λ z. omega (arith, z))
+
+        at-most : (o ≡ 16) ⊎ (o ≡ 17) → o < 18
+        at-most = ⊎-elim (λ z. omega (arith, z)) (λ z. omega (arith, z))
+
+        three-types : o ≡ 18 → ruleHolds t n earlier 6 ≡ typesAgree o (source t n earlier 1 .dtype) (source t n earlier 2 .dtype) (source t n earlier 3 .dtype)
+        three-types h = test-6 (omega (arith, h)) ∙ rw (second-is (uses-2 (omega (arith, h)) (omega (arith, h))), third-is (uses-3 h)) refl
+
+        decided : Rule6 o (source t n earlier 1 .dtype) (source t n earlier 2 .dtype) (source t n earlier 3 .dtype) → Row6 o → ruleHolds t n earlier 6 ≡ true
+        decided r (any w) =
+            ⊎-elim
+            (λ (l : o < 9). untyped (types-any (nodeAt t n .op) _ _ _ (rw op-is l)))
+            (λ (z : o ≡ 20).
+            let p = op-is ∙ z in
+            untyped (types-load (nodeAt t n .op) _ _ _ (omega (arith, p)) (λ y. absurd (omega (arith, p, y))) (λ y. absurd (omega (arith, p, y))) (omega (arith, p)))) w
+        decided r (arithmetic h k) =
+            let w = r .arithmetic h k in
+            two-types h (omega arith) ∙ sym (types-arithmetic o a b _ h (omega arith)) ∙ and-true-of _ _ (eq-eqb a b (w .0)) (ap not (ne-eqb a 0 (w .1)))
+        decided r (differs z) = two-types (omega (arith, z)) (omega (arith, z)) ∙ sym (types-differ o a b _ z) ∙ eq-eqb a b (r .differs z)
+        decided r (logical z) =
+            let w = r .logical z in
+            two-types (omega (arith, at-least z)) (omega (arith, at-most z)) ∙ sym (types-logical o a b _ (at-least z) (λ y. absurd (omega (arith, y, past z))) (at-most z))
+            ∙ and-true-of _ _ (eq-eqb a b (w .0 ∙ sym (w .1))) (eq-eqb a 0 (w .0))
+        decided r (chooses z) = let w = r .chooses z in three-types z ∙ sym (types-where o a b c z) ∙ and-true-of _ _ (eq-eqb a 0 (w .0)) (eq-eqb b c (w .1))
+        decided r (reduces z) = test-6 (omega (arith, z)) ∙ sym (types-reduce o a _ _ z) ∙ ap not (ne-eqb a 0 (r .reduces z))
+
+    -- an extent of a source, 1 where it is not used
+    some-extent : (k : ℕ) (s : NodeNumber) → s .0 ≡ asCount (word t n k) → ((i : ℕ) → 1 ≤ getD (source t n earlier k .extents) i 1) → (i : ℕ) → 1 ≤ getD (sourceOf earlier (nodeAt t n .op) k s .extents) i 1
+    unfolding sourceOf
+    some-extent k s w h i = bool-cases (uses (nodeAt t n .op) k) (λ u. rw (u, w) (h i)) (λ u. rw u (omega arith))
+
+    -- ---- rule 7
+
+    device-says : Exactly (deviceNamed (nodeAt t n) ≡ true) (From (pos 1) (pos 255) (word t n 6))
+    unfolding deviceNamed
+    device-says = (
+      λ e.
+          let w = and-true (leb 1 (nodeAt t n .device)) (leb (nodeAt t n .device) 255) e in
+          size-from-1 (word t n 6) 255 (omega arith) (rw (device-size t n) at (leb-true 1 (nodeAt t n .device) (w .0))) (rw (device-size t n) at (leb-true (nodeAt t n .device) 255 (w .1))),
+      λ h. let w = from-1-size (word t n 6) 255 h in and-true-of _ _ (le-leb 1 (nodeAt t n .device) (rw (device-size t n) (w .0))) (le-leb (nodeAt t n .device) 255 (rw (device-size t n) (w .1))),
+    )
+
+    param-says : (params : ℕ) → Exactly (paramRight (nodeAt t n) params ≡ true) (((word t n 5 ≡ pos params) × (params ≤ 15)) × (word t n 7 ≤ℤ word t n 8))
+    unfolding paramRight sizeOf
+    param-says params = (
+      λ e.
+          let w = and-true (eqb (sizeOf (nodeAt t n .number)) params && leb params 15) (leZ (nodeAt t n .low) (nodeAt t n .high)) e in
+          let s = and-true (eqb (sizeOf (nodeAt t n .number)) params) (leb params 15) (w .0) in
+          let few : params ≤ 15 = leb-true params 15 (s .1) in
+          ((size-is (word t n 5) params (rw (number-word t n) at (eqb-true (sizeOf (nodeAt t n .number)) params (s .0))) (omega arith), few), rw (low-word t n, high-word t n) at (of-le {a = nodeAt t n .low} {b = nodeAt t n .high} (leZ-true (nodeAt t n .low) (nodeAt t n .high) (w .1)))),
+      λ h.
+          and-true-of _ _ (and-true-of _ _ (eq-eqb (sizeOf (nodeAt t n .number)) params (rw (number-word t n, h .0 .0) refl)) (le-leb params 15 (h .0 .1))) (le-leZ {a = nodeAt t n .low} {b = nodeAt t n .high} (rw (low-word t n, high-word t n) (h .1))),
+    )
+
+    number-says : Exactly (leb (sizeOf (nodeAt t n .number)) 1 ≡ true) (From (pos 0) (pos 1) (word t n 5))
+    number-says = (λ e. size-from (word t n 5) 1 (omega arith) (rw (number-word t n) at (leb-true (sizeOf (nodeAt t n .number)) 1 e)), λ h. le-leb (sizeOf (nodeAt t n .number)) 1 (rw (number-word t n) (from-size (word t n 5) 1 h)))
+
+    module _ (params rank : ℕ) (ranked : rank ≤ 4) where
+      abbrev row : List ℕ
+      row = listOf (nodeAt t n .rowa)
+
+      shape-row : Exactly (isShapeRow (listOf (nodeAt t n .rowa)) ≡ true) (ShapeRow t n)
+      shape-row = shape-says t n 9 row refl (row-a-at t n)
+
+      flag-row : Exactly (isFlagRow rank (listOf (nodeAt t n .rowa)) ≡ true) (RowOf (From (pos 0) (pos 1)) t n 9 rank)
+      flag-row = flags-say t n 9 row refl (row-a-at t n) rank ranked
+
+      offset-row : Exactly (isOffsetRow rank (listOf (nodeAt t n .rowb)) ≡ true) (RowOf (From (pos 0) (pos 1048576)) t n 13 rank)
+      offset-row = offsets-say t n 13 (listOf (nodeAt t n .rowb)) refl (row-b-at t n) rank ranked
+
+      permuted-row : Exactly (isPermutation rank (listOf (nodeAt t n .rowa)) ≡ true) (PermutationRow t n rank)
+      permuted-row = permutation-says t n row refl (row-a-at t n) rank ranked
+
+      abbrev test : Bool
+      test = rowsRight (nodeAt t n) params rank
+
+      is : (k : ℕ) → o ≡ k → nodeAt t n .op ≡ k
+      is k z = op-is ∙ z
+
+      param-row : o ≡ 1 → rowsRight (nodeAt t n) params rank ≡ true
+          → (((word t n 5 ≡ pos params) × (params ≤ 15)) × (word t n 7 ≤ℤ word t n 8)) × From (pos 1) (pos 255) (word t n 6) × ShapeRow t n
+      param-row z e =
+          let w = and-true (paramRight (nodeAt t n) params) _ (rows-param (nodeAt t n) params rank (is 1 z) ∙ e) in
+          let v = and-true (deviceNamed (nodeAt t n)) (isShapeRow row) (w .1) in
+          (param-says params .0 (w .0), device-says .0 (v .0), shape-row .0 (v .1))
+
+      offset-rows : 6 ≤ o → o ≤ 7 → rowsRight (nodeAt t n) params rank ≡ true → ShapeRow t n × RowOf (From (pos 0) (pos 1048576)) t n 13 rank
+      offset-rows low high e =
+          let w = and-true (isShapeRow row) _ (rows-offset (nodeAt t n) params rank (rw op-is low) (rw op-is (omega arith)) ∙ e) in
+          (shape-row .0 (w .0), offset-row .0 (w .1))
+
+      reduce-row : o ≡ 19 → rowsRight (nodeAt t n) params rank ≡ true → From (pos 0) (pos 1) (word t n 5) × RowOf (From (pos 0) (pos 1)) t n 9 rank
+      reduce-row z e =
+          let w = and-true (leb (sizeOf (nodeAt t n .number)) 1) _ (rows-reduce (nodeAt t n) params rank (is 19 z) ∙ e) in
+          (number-says .0 (w .0), flag-row .0 (w .1))
+
+      shaped : rowsRight (nodeAt t n) params rank ≡ true → (4 ≤ o) × (o ≤ 7) → ShapeRow t n
+      shaped e h =
+          bool-cases (ltb o 6)
+          (λ l. shape-row .0 (rows-shape (nodeAt t n) params rank (rw op-is (h .0)) (rw op-is (ltb-true o 6 l)) ∙ e))
+          (λ l. offset-rows (ltb-false o 6 l) (h .1) e .0)
+
+      tested : rowsRight (nodeAt t n) params rank ≡ true → Rule7 t n o params rank
+      tested e =
+          record {
+            slot = λ z. param-row z e .0 .0;
+            limits = λ z. param-row z e .0 .1;
+            device = ⊎-elim (λ z. param-row z e .1)
+                (λ z. device-says .0 (rows-load (nodeAt t n) params rank (omega (arith, is 20 z)) (λ y. absurd (omega (arith, is 20 z, y))) (omega (arith, is 20 z)) ∙ e));
+            shape = ⊎-elim (λ z. param-row z e .2) (shaped e);
+            number = λ z. reduce-row z e .0;
+            permutation = λ z. permuted-row .0 (rows-permute (nodeAt t n) params rank (is 2 z) ∙ e);
+            flags = ⊎-elim (λ z. flag-row .0 (rows-flip (nodeAt t n) params rank (is 3 z) ∙ e)) (λ z. reduce-row z e .1);
+            offsets = ⊎-elim (λ z. offset-rows (omega (arith, z)) (omega (arith, z)) e .1) (λ z. offset-rows (omega (arith, z)) (omega (arith, z)) e .1);
+          }
+
+      ruled : Rule7 t n o params rank → Row7 o → rowsRight (nodeAt t n) params rank ≡ true
+      ruled r (constant z) = sym (rows-const (nodeAt t n) params rank (is 0 z))
+      ruled r (given z) =
+          sym (rows-param (nodeAt t n) params rank (is 1 z))
+          ∙ and-true-of _ _ (param-says params .1 (r .slot z, r .limits z)) (and-true-of _ _ (device-says .1 (r .device (inl z))) (shape-row .1 (r .shape (inl z))))
+      ruled r (permutes z) = sym (rows-permute (nodeAt t n) params rank (is 2 z)) ∙ permuted-row .1 (r .permutation z)
+      ruled r (flips z) = sym (rows-flip (nodeAt t n) params rank (is 3 z)) ∙ flag-row .1 (r .flags (inl z))
+      ruled r (shapes low high) = sym (rows-shape (nodeAt t n) params rank (rw op-is low) (rw op-is (omega arith))) ∙ shape-row .1 (r .shape (inr (low, omega arith)))
+      ruled r (places z) =
+          sym (rows-offset (nodeAt t n) params rank (rw op-is (six z)) (rw op-is (omega (arith, seven z))))
+          ∙ and-true-of _ _ (shape-row .1 (r .shape (inr (omega (arith, six z), seven z)))) (offset-row .1 (r .offsets z))
+        where
+          six : (o ≡ 6) ⊎ (o ≡ 7) → 6 ≤ o
+          six = ⊎-elim (λ z. omega (arith, z)) (λ z. omega (arith, z))
+
+          seven : (o ≡ 6) ⊎ (o ≡ 7) → o ≤ 7
+          seven = ⊎-elim (λ z. omega (arith, z)) (λ z. omega (arith, z))
+      ruled r (free low high) = sym (rows-any (nodeAt t n) params rank (rw op-is low) (rw op-is (omega arith)))
+      ruled r (reduces z) = sym (rows-reduce (nodeAt t n) params rank (is 19 z)) ∙ and-true-of _ _ (number-says .1 (r .number z)) (flag-row .1 (r .flags (inr z)))
+      ruled r (loads z) =
+          sym (rows-load (nodeAt t n) params rank (omega (arith, is 20 z)) (λ y. absurd (omega (arith, is 20 z, y))) (omega (arith, is 20 z))) ∙ device-says .1 (r .device (inr z))
+
+    no-source-rank : o < 2 → length (first (nodeAt t n) earlier .extents) ≤ 4
+    unfolding sourceOf uses among
+    no-source-rank l = rw op-is (for-range (λ (k : ℕ). length (sourceOf earlier k 1 (nodeAt t n .source1) .extents) ≤ 4) o 0 2 (omega arith then omega arith then tt) (omega arith) l)
+
+    says-7 : length (source t n earlier 1 .extents) ≤ 4 → Exactly (ruleHolds t n earlier 7 ≡ true) (Rule7 t n o (paramsBefore t n) (length (source t n earlier 1 .extents)))
+    unfolding ruleHolds among
+    says-7 h =
+        bool-cases (ltb o 2)
+        (λ l. let m = ltb-true o 2 l in (
+          λ e. reranked m (tested params _ (source-rank m) e),
+          λ r. ruled params _ (source-rank m) (reranked m r) (which-7 o known),
+        ))
+        (λ l. rw (first-is (uses-1 (ltb-false o 2 l))) (tested params _ h, λ r. ruled params _ h r (which-7 o known)))
+      where
+        params : ℕ
+        params = paramsBefore t n
+
+        -- CONST and PARAM have no source, and no row that is measured by one
+        source-rank : o < 2 → length (first (nodeAt t n) earlier .extents) ≤ 4
+        source-rank l = no-source-rank l
+
+        reranked : {m k : ℕ} → o < 2 → Rule7 t n o m k → {j : ℕ} → Rule7 t n o m j
+        reranked l r =
+            record {
+              slot = r .slot;
+              limits = r .limits;
+              device = r .device;
+              shape = r .shape;
+              number = r .number;
+              permutation = λ z. absurd (omega (arith, z));
+              flags = ⊎-elim (λ z. absurd (omega (arith, z))) (λ z. absurd (omega (arith, z)));
+              offsets = ⊎-elim (λ z. absurd (omega (arith, z))) (λ z. absurd (omega (arith, z)));
+            }
+
+    -- ---- rule 8
+
+    module _ (r : List ℕ) (offset : ℕ → ℕ) where
+      -- what stands for a source that the operation does not use is not named in its row
+      other-sources : {s₁ s₂ s₃ u₁ u₂ u₃ : List ℕ} → (2 ≤ o → s₁ ≡ u₁) → (9 ≤ o → o ≤ 18 → s₂ ≡ u₂) → (o ≡ 18 → s₃ ≡ u₃) → Rule8 o s₁ s₂ s₃ r offset → Rule8 o u₁ u₂ u₃ r offset
+      other-sources e₁ e₂ e₃ w =
+          record {
+            reshape = λ z. rw (e₁ (omega (arith, z))) at (w .reshape z);
+            expand = λ z. rw (e₁ (omega (arith, z))) at (w .expand z);
+            pad = λ z. rw (e₁ (omega (arith, z))) at (w .pad z);
+            shrink = λ z. rw (e₁ (omega (arith, z))) at (w .shrink z);
+            two = λ low high. rw (e₁ (omega arith), e₂ low (omega arith)) at (w .two low high);
+            three = λ z. rw (e₁ (omega (arith, z)), e₂ (omega (arith, z)) (omega (arith, z)), e₃ z) at (w .three z);
+          }
+
+      says-8 : length (source t n earlier 1 .extents) ≤ 4 → ((j k : ℕ) → 1 ≤ getD (source t n earlier j .extents) k 1)
+          → (4 ≤ o → o ≤ 7 → IsRow t n 9 r) → ((o ≡ 6) ⊎ (o ≡ 7) → (k : ℕ) → k < 4 → word t n (13 + k) ≡ pos (offset k))
+          → Exactly (ruleHolds t n earlier 8 ≡ true) (Rule8 o (source t n earlier 1 .extents) (source t n earlier 2 .extents) (source t n earlier 3 .extents) r offset × (count (deriveNode t n earlier .extents) ≤ 1048576))
+      unfolding ruleHolds shapeRight deriveNode derivedOf sizeOf among
+      says-8 ranked positive shape offsets = (
+        λ e.
+            let w = and-true (shapesAgree (nodeAt t n) (first (nodeAt t n) earlier .extents) (second (nodeAt t n) earlier .extents) (third (nodeAt t n) earlier .extents)) _ e in
+            (other-sources s1 s2 s3 (shapes .0 (w .0)), leb-true _ 1048576 (w .1)),
+        λ w. and-true-of _ _ (shapes .1 (other-sources (λ h. sym (s1 h)) (λ h k. sym (s2 h k)) (λ h. sym (s3 h)) (w .0))) (le-leb _ 1048576 (w .1)),
+      )
+        where
+          s1 : 2 ≤ o → first (nodeAt t n) earlier .extents ≡ source t n earlier 1 .extents
+          s1 h = ap (λ (d : Derived). d .extents) (first-is (uses-1 h))
+
+          s2 : 9 ≤ o → o ≤ 18 → second (nodeAt t n) earlier .extents ≡ source t n earlier 2 .extents
+          s2 h k = ap (λ (d : Derived). d .extents) (second-is (uses-2 h k))
+
+          s3 : o ≡ 18 → third (nodeAt t n) earlier .extents ≡ source t n earlier 3 .extents
+          s3 h = ap (λ (d : Derived). d .extents) (third-is (uses-3 h))
+
+          -- the sources that are there have extents from 1 on, and what stands for the others has none
+          some : (k : ℕ) (s : NodeNumber) → s .0 ≡ asCount (word t n k) → (i : ℕ) → 1 ≤ getD (sourceOf earlier (nodeAt t n .op) k s .extents) i 1
+          some k s w i = some-extent k s w (positive k) i
+
+          four : (o ≡ 6) ⊎ (o ≡ 7) → (k : ℕ) → k < length (first (nodeAt t n) earlier .extents) → k < 4
+          four z k l = let two : 2 ≤ o = ⊎-elim (λ y. omega (arith, y)) (λ y. omega (arith, y)) z in omega (arith, l, ap length (s1 two), ranked)
+
+          shapes : Exactly (shapesAgree (nodeAt t n) (first (nodeAt t n) earlier .extents) (second (nodeAt t n) earlier .extents) (third (nodeAt t n) earlier .extents) ≡ true)
+              (Rule8 o (first (nodeAt t n) earlier .extents) (second (nodeAt t n) earlier .extents) (third (nodeAt t n) earlier .extents) r offset)
+          shapes =
+              shapes-say (nodeAt t n) o op-is known _ _ _ r offset (some 1 (nodeAt t n .source1) (first-node t n)) (some 2 (nodeAt t n .source2) (second-node t n))
+              (λ low high. row-is t n 9 (listOf (nodeAt t n .rowa)) refl (row-a-at t n) r (shape low high))
+              (λ z k l. row-b-at t n k (four z k l) ∙ ap sizeOf (offsets z k (four z k l)))
+
+    -- ---- rules 9 and 10
+
+    -- the device of source k, 0 where it is not used
+    abbrev pub Device : ℕ → ℕ → Type 0
+    Device k d = (usesWord o k ≡ true → d ≡ source t n earlier k .device) × (usesWord o k ≡ false → d ≡ 0)
+
+    pub device-of : (k : ℕ) (s : NodeNumber) → 1 ≤ k → k ≤ 3 → s .0 ≡ asCount (word t n k) → Device k (sourceOf earlier (nodeAt t n .op) k s .device)
+    unfolding sourceOf
+    device-of k s a b w = (λ u. rw (used k a (omega arith), u, w) refl, λ u. rw (used k a (omega arith), u) refl)
+
+    -- any two of three
+    pub says-9 : Exactly (ruleHolds t n earlier 9 ≡ true) (Rule9 t n earlier o)
+    unfolding ruleHolds among
+    says-9 = (
+      λ e j k j1 j3 k1 k3 uj uk.
+          let w = agree-pairs _ _ _ e in
+          for-range (λ (i : ℕ). usesWord o i ≡ true → Share (source t n earlier i .device) (source t n earlier k .device)) j 1 3
+          ((λ u. for-range (λ (i : ℕ). usesWord o i ≡ true → Share (source t n earlier 1 .device) (source t n earlier i .device)) k 1 3
+          ((λ v. inr (inr refl)) then (λ v. at (d1 .0 u) (d2 .0 v) (w .0)) then (λ v. at (d1 .0 u) (d3 .0 v) (w .1)) then tt) k1 (omega arith) uk)
+          then (λ u. for-range (λ (i : ℕ). usesWord o i ≡ true → Share (source t n earlier 2 .device) (source t n earlier i .device)) k 1 3
+          ((λ v. at (d2 .0 u) (d1 .0 v) (turned (w .0))) then (λ v. inr (inr refl)) then (λ v. at (d2 .0 u) (d3 .0 v) (w .2)) then tt) k1 (omega arith) uk)
+          then (λ u. for-range (λ (i : ℕ). usesWord o i ≡ true → Share (source t n earlier 3 .device) (source t n earlier i .device)) k 1 3
+          ((λ v. at (d3 .0 u) (d1 .0 v) (turned (w .1))) then (λ v. at (d3 .0 u) (d2 .0 v) (turned (w .2))) then (λ v. inr (inr refl)) then tt) k1 (omega arith) uk)
+          then tt) j1 (omega arith) uj,
+      λ h.
+          pairs-agree _ _ _
+          (pair 1 2 d1 d2 (λ u v. h 1 2 (omega arith) (omega arith) (omega arith) (omega arith) u v))
+          (pair 1 3 d1 d3 (λ u v. h 1 3 (omega arith) (omega arith) (omega arith) (omega arith) u v))
+          (pair 2 3 d2 d3 (λ u v. h 2 3 (omega arith) (omega arith) (omega arith) (omega arith) u v)),
+    )
+      where
+        d1 : Device 1 (first (nodeAt t n) earlier .device)
+        d1 = device-of 1 (nodeAt t n .source1) (omega arith) (omega arith) (first-node t n)
+
+        d2 : Device 2 (second (nodeAt t n) earlier .device)
+        d2 = device-of 2 (nodeAt t n .source2) (omega arith) (omega arith) (second-node t n)
+
+        d3 : Device 3 (third (nodeAt t n) earlier .device)
+        d3 = device-of 3 (nodeAt t n .source3) (omega arith) (omega arith) (third-node t n)
+
+        at : {d e d′ e′ : ℕ} → d ≡ d′ → e ≡ e′ → Share d e → Share d′ e′
+        at p q s = rw (p, q) at s
+
+        turned : {d e : ℕ} → Share d e → Share e d
+        turned = ⊎-elim (λ z. inr (inl z)) (⊎-elim (λ z. inl z) (λ z. inr (inr (sym z))))
+
+        pair : {d e : ℕ} (j k : ℕ) → Device j d → Device k e → (usesWord o j ≡ true → usesWord o k ≡ true → Share (source t n earlier j .device) (source t n earlier k .device)) → Share d e
+        pair j k p q h =
+            bool-cases (usesWord o j)
+            (λ u. bool-cases (usesWord o k) (λ v. at (sym (p .0 u)) (sym (q .0 v)) (h u v)) (λ v. inr (inl (q .1 v))))
+            (λ u. inl (p .1 u))
+
+    says-10 : Exactly (ruleHolds t n earlier 10 ≡ true) (Rule10 t n earlier o)
+    unfolding ruleHolds divisorRight among
+    says-10 = (
+      λ e d low high.
+          let bounds = second-is (uses-2 (omega (arith, divides d)) (omega (arith, divides d))) in
+          let z : not (holds (source t n earlier 2 .bounds) (pos 0)) ≡ true = rw bounds at (implied _ _ e (among-two d)) in
+          false≢true (rw (holding (source t n earlier 2 .bounds) (pos 0) (record { low = low; high = high })) at z),
+      λ h. implied-of _ _ (λ m.
+          let d = two-among m in
+          let bounds = second-is (uses-2 (omega (arith, divides d)) (omega (arith, divides d))) in
+          rw bounds
+          (bool-cases (holds (source t n earlier 2 .bounds) (pos 0)) (λ z. let w = held (source t n earlier 2 .bounds) (pos 0) z in absurd (h d (w .low) (w .high))) (λ z. rw z refl))),
+    )
+      where
+        divides : (o ≡ 12) ⊎ (o ≡ 13) → (9 ≤ o) × (o ≤ 18)
+        divides = ⊎-elim (λ z. omega (arith, z)) (λ z. omega (arith, z))
+
+        among-two : (o ≡ 12) ⊎ (o ≡ 13) → among (nodeAt t n .op) (12 ∷ 13 ∷ []) ≡ true
+        among-two = ⊎-elim (λ z. rw (op-is, z) refl) (λ z. rw (op-is, z) refl)
+
+        two-among : among (nodeAt t n .op) (12 ∷ 13 ∷ []) ≡ true → (o ≡ 12) ⊎ (o ≡ 13)
+        two-among m = or-true (eqb o 12) _ (rw op-is at m) (λ z. inl (eqb-true o 12 z)) (λ z. or-true (eqb o 13) false z (λ y. inr (eqb-true o 13 y)) (λ y. absurd (false≢true y)))
+
+  says-11 : deriveNode t n earlier .dtype ≤ 3
+      → Exactly (ruleHolds t n earlier 11 ≡ true) (Rule11 (deriveNode t n earlier .dtype) (deriveNode t n earlier .bounds .low) (deriveNode t n earlier .bounds .high))
+  unfolding ruleHolds boundsInType deriveNode among
+  says-11 h = ranges (deriveNode t n earlier .dtype) (deriveNode t n earlier .bounds) h
+
+pub rules-say : RulesSay
+rules-say =
+    record {
+      rule-2 = says-2;
+      rule-3 = says-3;
+      rule-4 = says-4;
+      rule-5 = says-5;
+      rule-6 = says-6;
+      rule-7 = says-7;
+      rule-8 = λ t n earlier o r offset q k. says-8 t n earlier o q k r offset;
+      rule-9 = says-9;
+      rule-10 = says-10;
+      rule-11 = says-11;
+    }
