@@ -17,6 +17,8 @@ Items of a cell stand between semicolons; words in parentheses may follow a name
                further; marked ●; agreement; vectors; by type
   cited by     crate, crate; `function`, `function`; crate/File: name; crate must-fail edit, edit
   rows         a heading
+  statement    as definition
+  theorem      as shown by
 – stands for none. In words and notes whatever looks like a name (LIKE_A_NAME) is looked for everywhere.
 """
 
@@ -30,6 +32,7 @@ ROOT = os.path.dirname(os.path.dirname(os.path.dirname(os.path.abspath(__file__)
 PROSE = ('ARCHITECTURE.md', 'DECISIONS.md')
 PHRASES = {'contract': ('all', 'all calls', 'every call'),
            'shown by': ('further', 'marked ●', 'agreement', 'vectors', 'by type')}
+PHRASES['theorem'] = PHRASES['shown by']
 # Words of the languages.
 LANGUAGE = {'requires', 'abbrev', 'unfoldable', 'refl', 'pub'}
 # Before its tables MAP.md explains its forms by these.
@@ -247,14 +250,15 @@ def cited(item):
     return some or listed(item, '', lambda crate: os.path.isdir(at('crates', crate)))
 
 
-COLUMNS = {'definition': definition, 'contract': contract, 'shown by': shown, 'cited by': cited}
+COLUMNS = {'definition': definition, 'contract': contract, 'shown by': shown, 'cited by': cited,
+           'statement': definition, 'theorem': shown}
 
 
 def citations(head, cell, headings):
     """(what, whether it is there) of all that a cell cites."""
     if head in ('01 says', 'request'):
         return []
-    if head in ('what it says', 'what is to come'):
+    if head in ('what it says', 'what is to come', 'wrong definition'):
         return list(words(cell))
     if head == 'rows':
         return [(cell, cell in headings)]

@@ -192,14 +192,22 @@ WRONG = {
         'further (noSuchName)', 'model test none', 'Tables of plan', 'proofs of plans', 'proofs of verifier/none',
         'agreement, vectors'),
 }
+# The same of the table of wrong definitions.
+OTHER_HEAD = '| wrong definition | statement | theorem |\n|---|---|---|\n'
+OTHER_ROW = 'testInput for a flag', 'plan/Words: nodeOf (`node_at`); plan/lib.rt: Node', 'plan/Masks: mask-bit; further'
+OTHER_WRONG = {
+    0: ('noSuchName', '`no_such`', 'plan/Words: nodeOff'),
+    1: ('', 'words', 'plan/Words: nodeOff', 'plan/Masks: mask-bit', 'further'),
+    2: ('', 'words', 'plan/Masks: mask-bits', 'plan/Words: nodeOf', 'plan must-fail i16_low', '`check`'),
+}
 
 
-def map_told(*rows):
+def map_told(head, *rows):
     """Status and lines of map_names.py on a map of these rows."""
     with tempfile.TemporaryDirectory() as folder:
         path = os.path.join(folder, 'MAP.md')
         with open(path, 'w', encoding='utf-8') as file:
-            file.write(HEAD + ''.join('| ' + ' | '.join(row) + ' |\n' for row in rows))
+            file.write(head + ''.join('| ' + ' | '.join(row) + ' |\n' for row in rows))
         done = subprocess.run([sys.executable, os.path.join(ROOT, 'tests', 'tools', 'map_names.py'), path],
                               capture_output=True, text=True, timeout=60, check=False)
     return done.returncode, done.stdout.split('\n')
@@ -207,13 +215,14 @@ def map_told(*rows):
 
 def test_map(tally):
     """A row whose citations are there; then that row with one cell wrong, which has to be named by its line."""
-    tally.same('a good row', map_told(ROW), (0, ['7 passed, 0 failed', '']))
-    tally.same('a cell too many', map_told([*ROW, 'more'])[0], 1)
-    rows = [[*ROW[:column], cell, *ROW[column + 1:]] for column, cells in WRONG.items() for cell in cells]
-    status, lines = map_told(*rows)
-    named = {line.split(': ')[0] for line in lines}
-    for number, row in enumerate(rows, 3):
-        tally.holds(('a wrong cell', row[1:]), status == 1 and f'MAP.md:{number}' in named)
+    for head, good, wrong, count in (HEAD, ROW, WRONG, 7), (OTHER_HEAD, OTHER_ROW, OTHER_WRONG, 6):
+        tally.same(('a good row', good), map_told(head, good), (0, [f'{count} passed, 0 failed', '']))
+        tally.same(('a cell too many', good), map_told(head, [*good, 'more'])[0], 1)
+        rows = [[*good[:column], cell, *good[column + 1:]] for column, cells in wrong.items() for cell in cells]
+        status, lines = map_told(head, *rows)
+        named = {line.split(': ')[0] for line in lines}
+        for number, row in enumerate(rows, 3):
+            tally.holds(('a wrong cell', row), status == 1 and f'MAP.md:{number}' in named)
 
 
 def main():
