@@ -1,54 +1,168 @@
-"""Lupetzarin from Python: plans over whole numbers with gaps, unpacked, checked, run and traced back by proved code.
+"""Lupetzarin from Python: plans over whole numbers with gaps, unpacked, checked, run and traced back by proved
+code.
 
     import lupetzarin as lup
-    table = lup.unpack(open('bay.plan', 'rb').read())      # 17 words a node
-    records = lup.check(table)                             # type, device, bounds and extents of each node
-    result = lup.run(table, values, flags)                 # every element of every node
-    place = lup.lookup(table, node, element)               # where an element comes from; None for a gap
+    plan = lup.Plan(open('bay.plan', 'rb').read())         # unpacked and checked, once
+    result = plan.run(values, flags)                       # every element of every node
+    result = plan.run(masked)                              # the same of a masked array: a gap where it is masked
+    field = result.field(node)                             # a node's elements as a masked array of the node's shape
+    place = plan.lookup(node, element)                     # where an element comes from; None for a gap
 
-A refusal raises Refused with its number and its place. Inputs are any sequences of whole numbers; arrays of array.array and contiguous numpy
-arrays (int64 values, uint8 or bool flags) are handed over as they are, without a copy. Results are numpy arrays where numpy can be imported, else
-arrays of array.array. The library is build/liblupetzarin.so beside this directory, or what LUPETZARIN_LIBRARY names.
+unpack, check, unpack_check, run and lookup are the calls of the header, on a plan's table of 17 words a node. A
+refusal raises Refused, with its number, its place and, in words, what was wrong and where. What is no whole
+numbers, or none that fit, raises TypeError or OverflowError; flags that contradict a mask raise ValueError.
+
+What is taken as numbers; nothing is ever rounded or cut:
+  - a sequence of int, or of numpy's integers and bools; no arrays within it, no float, no None;
+  - an array.array of whole numbers;
+  - a numpy array of any signed or unsigned type in either byte order; a known number over 2^63 - 1 is refused, and
+    a flag that is not 0..255. A bool array is taken as flags, and as values where every PARAM is bool. An array of
+    several axes is read row by row.
+Floats, and so NaN, objects, dates and all other types are refused.
+
+A masked array (numpy.ma) is taken as the values of a run and nowhere else. It carries its own flags: known where it
+is not masked; flags that are given besides have to say the same. Other values need flags: 1 for a known number, 0
+for a gap. Join masked arrays with numpy.ma.concatenate: numpy.concatenate drops their masks.
+
+Memory is handed to the library as it is, without a copy, where it is what the header asks for: int64 (flags: uint8
+or bool) in the machine's byte order, contiguous, at a multiple of 8 bytes; it may be read-only, as the library only
+reads it. All else is copied first. What a call writes is fresh memory of this module, so it overlaps nothing.
+Results are numpy arrays where numpy can be imported, else arrays of array.array. The library is
+build/liblupetzarin.so beside this directory, or what LUPETZARIN_LIBRARY names.
 """
+
+from __future__ import annotations
 
 import ctypes
 import os
+import reprlib
 from array import array
-from collections import namedtuple
+from itertools import accumulate
 from math import prod
+from typing import TYPE_CHECKING, Any, Iterable, NamedTuple, Optional, Union
 
 try:
     import numpy
 except ImportError:
-    numpy = None
+    numpy = None  # type: ignore[assignment]
 
-__all__ = ['DTYPES', 'OPERATIONS', 'Place', 'Record', 'Refused', 'Result', 'check', 'lookup', 'run', 'unpack', 'unpack_check']
+if TYPE_CHECKING:
+    # What is handed to the library and what a run gives; what a caller gives.
+    Memory = Union['array[int]', memoryview, 'numpy.ndarray[Any, Any]']
+    Numbers = Union[Iterable[int], Memory]
 
-NODE_WORDS, RECORD_WORDS, MOST_NODES = 17, 8, 256
+__all__ = ['DTYPES', 'FILL_VALUE', 'OPERATIONS', 'Place', 'Plan', 'RULES', 'Record', 'Refused', 'Result', 'check',
+           'lookup', 'run', 'unpack', 'unpack_check']
+
+NODE_WORDS, RECORD_WORDS, MOST_NODES, NUMBER_WORD, PARAM, BOOL = 17, 8, 256, 5, 1, 0
 DTYPES = ('bool', 'u8', 'i16', 'i32')
-OPERATIONS = tuple('CONST PARAM PERMUTE FLIP RESHAPE EXPAND PAD SHRINK CAST ADD MUL MAX IDIV MOD CMPLT CMPNE AND OR WHERE REDUCE LOAD'.split())
-RULES = {
-    1: 'the length is no multiple of 17 words, or not of 1 to 256 nodes', 2: 'operation not 0 to 20', 3: 'unused word not zero',
-    4: 'source negative or not earlier', 5: 'type not 0 to 3', 6: 'type rule broken', 7: 'row or number wrong',
-    8: 'shapes disagree, or over 1048576 elements', 9: 'two devices', 10: "the divisor's bounds contain 0", 11: 'bounds leave the type',
-    12: 'all nodes together over 4194304 elements', 13: 'an input length is not that of all PARAMs', 14: 'a buffer written to is too short',
-    15: 'flag neither 0 nor 1', 16: "known number outside its PARAM's limits", 17: 'no such node or element', 20: 'the bytes end within a number',
-    21: 'number not in its shortest form, or over 5 bytes', 22: 'bytes after the last node', 23: 'node count not 1 to 256', 24: 'operation not 0 to 20'}
-PLACES = {**dict.fromkeys(range(2, 12), 'node'), 15: 'input position', 16: 'input position', **dict.fromkeys((20, 21, 22, 24), 'byte')}
+OPERATIONS = tuple('CONST PARAM PERMUTE FLIP RESHAPE EXPAND PAD SHRINK CAST ADD MUL MAX IDIV MOD CMPLT CMPNE AND OR '
+                   'WHERE REDUCE LOAD'.split())
+# What stands in a gap of a masked array: outside every type; cut to 32, 16 or 8 bits it is far below 0, and not 0.
+FILL_VALUE = -2 ** 63 + 2 ** 31 + 2 ** 15 + 2 ** 7
 
-# What is derived of a node; a place; what a run gives: the elements of all nodes end to end, one slice of them a node, and the gaps of the output.
-Record = namedtuple('Record', 'dtype device low high extents')
-Place = namedtuple('Place', 'node element')
-Result = namedtuple('Result', 'values flags nodes gaps')
+# Every refusal: what its place counts, nothing where it has none, and what was wrong; the words are those of lup.
+RULES = {
+    1: ('', 'length no multiple of 17, or not 1..256 nodes'),
+    2: ('node', 'operation not 0..20'),
+    3: ('node', 'unused word not zero'),
+    4: ('node', 'source negative or not earlier'),
+    5: ('node', 'type not 0..3'),
+    6: ('node', 'type rule broken (operands differ, bool misplaced, or WHERE condition not bool)'),
+    7: ('node', 'row or number wrong'),
+    8: ('node', 'shapes disagree, or over 1048576 elements'),
+    9: ('node', 'two devices'),
+    10: ('node', 'divisor bounds contain 0'),
+    11: ('node', 'bounds leave the type'),
+    12: ('', 'all nodes together over 4194304 elements'),
+    13: ('', 'input length is not the PARAM total'),
+    14: ('', 'a buffer written to is too short'),
+    15: ('input position', 'flag neither 0 nor 1'),
+    16: ('input position', 'known number outside limits'),
+    17: ('', 'lookup node or element not there'),
+    20: ('byte', 'bytes end before or inside a number'),
+    21: ('byte', 'number not in its shortest form of at most 5 bytes'),
+    22: ('byte', 'bytes left over'),
+    23: ('byte', 'node count not 1..256'),
+    24: ('byte', 'operation not 0..20'),
+}
+# What rule 7 asks of an operation's row and number.
+ROWS = {
+    'PARAM': 'slot not its turn or over 15, low above high, device not 1..255, or no shape',
+    'PERMUTE': 'not each axis of the source once',
+    'FLIP': 'not a flag 0 or 1 for each axis of the source',
+    'RESHAPE': 'no shape',
+    'EXPAND': 'no shape',
+    'PAD': 'no shape, or an offset not 0..1048576 or past the rank',
+    'SHRINK': 'no shape, or an offset not 0..1048576 or past the rank',
+    'REDUCE': 'number neither 0 nor 1, or not a flag 0 or 1 for each axis of the source',
+    'LOAD': 'device not 1..255',
+}
 
 
 class Refused(Exception):
-    """A refusal: its number and its place."""
+    """A refusal: its number and its place; where and more are the place in words and what was found there, where
+    they are known. It can be pickled, so a process pool hands it on."""
 
-    def __init__(self, number, place):
-        where = f' at {PLACES[number]} {place}' if number in PLACES else ''
-        super().__init__(f'refused {number}{where}: {RULES[number]}')
+    def __init__(self, number: int, place: int, where: str = '', more: str = '') -> None:
+        super().__init__(number, place, where, more)
         self.number, self.place = number, place
+
+    def __str__(self) -> str:
+        number, place, where, more = self.args
+        counted, words = RULES.get(number, ('', 'a rule that this module does not know'))
+        where = where or (f'{counted} {place}' if counted else '')
+        return f'refused {number}{" at " + where if where else ""}: {words}{": " + more if more else ""}'
+
+
+class Record(NamedTuple):
+    """What is derived of a node."""
+
+    dtype: int
+    device: int
+    low: int
+    high: int
+    extents: tuple[int, ...]
+
+
+class Place(NamedTuple):
+    """An element of a node, both counted from 0."""
+
+    node: int
+    element: int
+
+
+class Result(NamedTuple):
+    """What a run gives: the elements of all nodes end to end, a gap as value 0 and flag 0; one slice of them a node;
+    the gaps of the output, the last node; what is derived of each node."""
+
+    values: Memory
+    flags: Memory
+    nodes: tuple[slice, ...]
+    gaps: int
+    records: tuple[Record, ...]
+
+    def field(self, node: int) -> numpy.ma.MaskedArray[Any, Any]:
+        """The elements of a node (-1: the output) as a masked array in the node's shape, gaps masked: a copy.
+        FILL_VALUE, which is in no type's range, is its fill_value, and also lies under the mask: where something
+        drops the mask, a gap is still no number of the plan."""
+        if numpy is None:
+            raise ImportError('field: masked arrays need numpy, which cannot be imported here; cells gives a list')
+        part, shape = self._part(node), self.records[node].extents
+        gaps = (self.flags[part] == 0).reshape(shape)
+        data = numpy.where(gaps, FILL_VALUE, self.values[part].reshape(shape))
+        return numpy.ma.array(data, mask=gaps, fill_value=FILL_VALUE)
+
+    def cells(self, node: int) -> list[Optional[int]]:
+        """The elements of a node (-1: the output) as a list, row by row; None for a gap."""
+        part = self._part(node)
+        cells = zip(self.values[part].tolist(), self.flags[part].tolist())
+        return [value if flag else None for value, flag in cells]
+
+    def _part(self, node: int) -> slice:
+        if not -len(self.nodes) <= node < len(self.nodes):
+            raise IndexError(f'no node {node}, the last is {len(self.nodes) - 1}')
+        return self.nodes[node]
 
 
 class _Answer(ctypes.Structure):
@@ -59,12 +173,13 @@ class _Found(ctypes.Structure):
     _fields_ = [(name, ctypes.c_uint64) for name in ('number', 'place', 'found', 'node', 'element')]
 
 
-def _load():
+def _load() -> ctypes.CDLL:
     beside = os.path.join(os.path.dirname(os.path.dirname(os.path.abspath(__file__))), 'build', 'liblupetzarin.so')
     library = ctypes.CDLL(os.environ.get('LUPETZARIN_LIBRARY', beside))
     buffer = [ctypes.c_void_p, ctypes.c_size_t]
-    for name, buffers, numbers, answer in (('unpack', 2, 0, _Answer), ('check', 2, 0, _Answer), ('run', 5, 0, _Answer), ('lookup', 1, 2, _Found),
-                                           ('unpack_check', 1, 0, ctypes.c_uint64)):
+    calls = (('unpack', 2, 0, _Answer), ('check', 2, 0, _Answer), ('run', 5, 0, _Answer), ('lookup', 1, 2, _Found),
+             ('unpack_check', 1, 0, ctypes.c_uint64))
+    for name, buffers, numbers, answer in calls:
         call = getattr(library, 'lup_' + name)
         call.argtypes, call.restype = buffer * buffers + [ctypes.c_uint64] * numbers, answer
     return library
@@ -72,81 +187,295 @@ def _load():
 
 _LIBRARY = _load()
 
+# ------------------------------------------------------------------ memory
 
-def _held(items, code):
-    """The items as memory of that type: as they are where they are such memory already."""
-    if numpy is not None and isinstance(items, numpy.ndarray):
-        if code == 'B' and items.dtype == bool:
-            items = items.view(numpy.uint8)
-        if items.dtype.kind not in 'iu':
-            raise TypeError(f'whole numbers are wanted, not {items.dtype}')
-        held = numpy.ascontiguousarray(items, {'q': numpy.int64, 'B': numpy.uint8}[code]).ravel()
-        if held.dtype != items.dtype and (held != items.ravel()).any():
-            raise OverflowError('a number does not fit')
-        return held
-    return items if isinstance(items, array) and items.typecode == code else array(code, items)
+# The two kinds of memory that the library knows, by their letters in array.array: the least and the greatest number,
+# and numpy's type. What is a whole number by itself: no array of one number, which may be masked.
+_LIMITS = {'q': (-2 ** 63, 2 ** 63 - 1), 'B': (0, 255)}
+if numpy is not None:
+    _TYPES = {'q': numpy.dtype(numpy.int64), 'B': numpy.dtype(numpy.uint8)}
+    _WHOLE: tuple[type, ...] = (int, numpy.integer, numpy.bool_)
+    _EIGHT = _TYPES['q'].alignment == 8     # numpy's own flag says what the header asks for
+else:
+    _WHOLE = (int,)
 
 
-def _fresh(code, count):
-    if numpy is not None:
-        return numpy.zeros(count, {'q': numpy.int64, 'B': numpy.uint8}[code])
-    return array(code, bytes(count * array(code).itemsize))
+def _is_masked(items: object) -> bool:
+    return numpy is not None and isinstance(items, numpy.ma.MaskedArray)
 
 
-def _lent(memory):
+def _shown(item: object) -> str:
+    return f'{" ".join(reprlib.repr(item).split())} ({type(item).__name__})'
+
+
+def _listed(items: Numbers, code: str, name: str) -> array[int]:
+    """The items of any sequence in memory of that type."""
+    if code == 'B' and isinstance(items, (bytes, bytearray)):
+        return array(code, items)
+    if not hasattr(items, '__iter__'):
+        raise TypeError(f'{name}: whole numbers are wanted, and this is {_shown(items)}')
+    numbers = list(items)
+    kinds = set(map(type, numbers))
+    if not all(issubclass(kind, _WHOLE) for kind in kinds):
+        position, wrong = next(pair for pair in enumerate(numbers) if not isinstance(pair[1], _WHOLE))
+        raise TypeError(f'{name}: whole numbers are wanted, and item {position} is {_shown(wrong)}')
+    if not kinds <= {int}:
+        numbers = list(map(int, numbers))
+    low, high = _LIMITS[code]
+    if numbers and not (low <= min(numbers) and max(numbers) <= high):
+        position = next(k for k, number in enumerate(numbers) if not low <= number <= high)
+        raise OverflowError(f'{name}: item {position} is {numbers[position]}, not {low}..{high}')
+    return array(code, numbers)
+
+
+def _converted(items: numpy.ndarray[Any, Any], code: str, name: str,
+               known: Optional[Memory]) -> numpy.ndarray[Any, Any]:
+    """A copy of whole numbers as the library wants them; where known has 0 a number need not fit."""
+    low, high = _LIMITS[code]
+    if not numpy.can_cast(items.dtype, _TYPES[code]):
+        over = items > items.dtype.type(min(high, numpy.iinfo(items.dtype).max))
+        if items.dtype.kind == 'i':
+            over |= items < 0
+        wrong = over.ravel()
+        if known is not None and len(known) == len(wrong):
+            wrong = wrong & (numpy.asarray(known) != 0)
+        if wrong.any():
+            position = int(wrong.argmax())
+            raise OverflowError(f'{name}: position {position} holds {items.ravel()[position]}, not {low}..{high}')
+    return items.astype(_TYPES[code], order='C')
+
+
+def _expect_whole(dtype: numpy.dtype[Any], name: str, bools: bool) -> None:
+    if dtype.kind not in 'iu' and not (bools and dtype == bool):
+        why = ' (bools are taken as values where every PARAM is bool)' if dtype == bool else ''
+        raise TypeError(f'{name}: whole numbers are wanted, and this array is of {dtype}{why}')
+
+
+def _held(items: Numbers, code: str, name: str, known: Optional[Memory] = None, bools: bool = True) -> Memory:
+    """The items as memory that the header's conditions hold of: as they are where they are such memory, else a copy
+    of them. A mask is never dropped. known: flags of the items, 0 where the number does not matter; bools: whether
+    an array of bools is taken."""
+    if isinstance(items, array) and items.typecode == code:
+        return memoryview(items)    # nobody can make the array longer, and so move it, while the library reads it
+    if numpy is None or not isinstance(items, numpy.ndarray):
+        return _listed(items, code, name)
+    if isinstance(items, numpy.ma.MaskedArray):
+        raise TypeError(f'{name}: this is a masked array, which is taken as the values of a run alone')
+    if type(items) is not numpy.ndarray:
+        items = items.view(numpy.ndarray)
+    if items.dtype != _TYPES[code]:
+        _expect_whole(items.dtype, name, bools)
+        items = items.view(numpy.uint8) if items.dtype == bool else items
+    if items.dtype != _TYPES[code]:
+        held = _converted(items, code, name, known)
+    else:
+        flags = items.flags
+        fits = flags.c_contiguous and (flags.aligned if _EIGHT else items.ctypes.data % 8 == 0)
+        held = items if fits else items.copy(order='C')
+    return held if held.ndim == 1 else held.reshape(-1)
+
+
+def _fresh(code: str, count: int) -> Memory:
+    """Memory that a call writes."""
+    return numpy.empty(count, _TYPES[code]) if numpy is not None else array(code, (0,)) * count
+
+
+def _lent(memory: Memory) -> tuple[int, int]:
     """The address of the items and how many they are. The memory has to be held by a name until the call is over."""
-    if isinstance(memory, array):
-        return memory.buffer_info()
-    return memory.ctypes.data, memory.size
+    if isinstance(memory, memoryview):
+        memory = memory.obj
+    return memory.buffer_info() if isinstance(memory, array) else (memory.ctypes.data, memory.size)
 
 
-def _accepted(answer):
+def _flagged(values: numpy.ma.MaskedArray[Any, Any], flags: Optional[Numbers]) -> Memory:
+    """The flags of a masked array; those that are given besides have to be the same."""
+    _expect_whole(values.dtype, 'values', True)
+    known = (~numpy.ma.getmaskarray(values).reshape(-1)).view(numpy.uint8)
+    if flags is None:
+        return known
+    given = numpy.asarray(_held(flags, 'B', 'flags'))
+    if len(given) != len(known):
+        raise ValueError(f'flags: {len(given)} of them, and the masked array has {len(known)} cells')
+    if (given != known).any():
+        position = int((given != known).argmax())
+        masked = 'not masked' if known[position] else 'masked'
+        raise ValueError(f'flags: flag {position} is {given[position]}, and that cell of the values is {masked}')
+    return known
+
+
+def _inputs(values: Numbers, flags: Optional[Numbers], bools: bool) -> tuple[Memory, Memory]:
+    """Values and flags of a run as memory."""
+    if _is_masked(values):
+        known = _flagged(values, flags)
+        return _held(numpy.ma.getdata(values), 'q', 'values', known, bools), known
+    if flags is None:
+        raise TypeError('flags: none are given, and the values are no masked array: 1 is a known number, 0 a gap')
+    known = _held(flags, 'B', 'flags')
+    return _held(values, 'q', 'values', known, bools), known
+
+
+def _whole(number: int, name: str) -> int:
+    """A number that is no array: what is masked has none."""
+    if not isinstance(number, _WHOLE):
+        raise TypeError(f'{name}: a whole number is wanted, and this is {_shown(number)}')
+    return int(number)
+
+
+# ---------------------------------------------------------------- refusals
+
+def _named(operation: int) -> str:
+    return OPERATIONS[operation] if 0 <= operation < len(OPERATIONS) else f'operation {operation}'
+
+
+def _refused_table(number: int, place: int, table: Memory) -> Refused:
+    """A refusal of the check: 1 to 12."""
+    if number not in range(2, 12):
+        return Refused(number, place, '', f'{len(table)} words' if number == 1 else '')
+    operation = _named(int(table[NODE_WORDS * place]))
+    return Refused(number, place, f'node {place} ({operation})', ROWS.get(operation, '') if number == 7 else '')
+
+
+def _place_text(extents: tuple[int, ...], element: int) -> str:
+    """An element in words, as lup says it: its picture, row and column."""
+    coordinates: list[int] = []
+    for extent in reversed(extents):
+        element, coordinate = divmod(element, extent)
+        coordinates.insert(0, coordinate)
+    front, last = coordinates[:-2], coordinates[-2:]
+    words = ['picture ' + ','.join(map(str, front))] if front else []
+    return ' '.join(words + [f'{axis} {k}' for axis, k in zip(('row', 'column')[2 - len(last):], last)])
+
+
+# -------------------------------------------------------------------- plans
+
+class Plan:
+    """A plan that is unpacked and checked once, for many runs and lookups. It does not change, can be used by
+    several threads at once, and can be pickled.
+
+    records: what is derived of each node; nodes: the slice of each in the elements of all nodes, end to end; inputs:
+    how many elements all PARAMs have together; elements: how many all nodes have."""
+
+    __slots__ = ('records', 'nodes', 'inputs', 'elements', '_words', '_lent', '_params', '_bools')
+
+    def __init__(self, data: Numbers) -> None:
+        """Unpacks and checks the bytes of a packed plan."""
+        self._settle(unpack(data))
+
+    @classmethod
+    def of_table(cls, table: Union[Plan, Numbers]) -> Plan:
+        """Checks a table, 17 words a node; a Plan is given back as it is. The table is copied: what happens to it
+        afterwards changes nothing."""
+        if isinstance(table, Plan):
+            return table
+        plan = cls.__new__(cls)
+        plan._settle(table)
+        return plan
+
+    def _settle(self, table: Numbers) -> None:
+        self._words = array('q', _held(table, 'q', 'table').tobytes())
+        self._lent = self._words.buffer_info()
+        self.records = tuple(_derived(self._words))
+        counts = [prod(record.extents) for record in self.records]
+        ends = [0, *accumulate(counts)]
+        self.nodes, self.elements = tuple(map(slice, ends, ends[1:])), ends[-1]
+        params = [node for node in range(len(counts)) if self._words[NODE_WORDS * node] == PARAM]
+        starts = [0, *accumulate(counts[node] for node in params)]
+        self._params, self.inputs = tuple(zip(starts, params)), starts[-1]
+        self._bools = all(self.records[node].dtype == BOOL for node in params)
+
+    def __reduce__(self) -> tuple[Any, ...]:
+        return type(self).of_table, (self._words,)
+
+    def __repr__(self) -> str:
+        return f'<Plan of {len(self.nodes)} nodes, {self.inputs} inputs and {self.elements} elements>'
+
+    @property
+    def table(self) -> Memory:
+        """A copy of the table, 17 words a node."""
+        return numpy.array(self._words) if numpy is not None else self._words[:]
+
+    def run(self, values: Numbers, flags: Optional[Numbers] = None) -> Result:
+        """Every element of every node, on the elements of all PARAMs end to end: flag 1 a known number, 0 a gap,
+        whatever its value is. The values may be a masked array, which has its own flags."""
+        held, known = _inputs(values, flags, self._bools)
+        count = self.elements
+        out_values, out_flags = _fresh('q', count), _fresh('B', count)
+        answer = _LIBRARY.lup_run(*self._lent, *_lent(held), *_lent(known), *_lent(out_values), *_lent(out_flags))
+        if answer.number:
+            raise self._refused_run(answer.number, answer.place, held, known)
+        return Result(out_values, out_flags, self.nodes, answer.count, self.records)
+
+    def lookup(self, node: int, element: int) -> Optional[Place]:
+        """The place that an element of a node comes from; None where it is a gap that a PAD put there."""
+        node, element = _whole(node, 'node'), _whole(element, 'element')
+        if not (0 <= node < 2 ** 64 and 0 <= element < 2 ** 64):
+            raise self._refused_lookup(17, 0, node, element)
+        found = _LIBRARY.lup_lookup(*self._lent, node, element)
+        if found.number:
+            raise self._refused_lookup(found.number, found.place, node, element)
+        return Place(found.node, found.element) if found.found == 1 else None
+
+    def _refused_run(self, number: int, place: int, values: Memory, flags: Memory) -> Refused:
+        if number == 13:
+            return Refused(number, place, '', f'{len(values)} values and {len(flags)} flags, not {self.inputs}')
+        if number not in (15, 16) or place >= self.inputs:
+            return _refused_table(number, place, self._words)
+        start, node = [pair for pair in self._params if pair[0] <= place][-1]
+        record, element = self.records[node], place - start
+        words = _place_text(record.extents, element)
+        param = f'PARAM {self._words[NODE_WORDS * node + NUMBER_WORD]} (node {node}, input position {place})'
+        found = f'{values[place]}, not {record.low}..{record.high}' if number == 16 else f'{flags[place]}'
+        return Refused(number, place, f'element {element}{" (" + words + ")" if words else ""} of {param}', found)
+
+    def _refused_lookup(self, number: int, place: int, node: int, element: int) -> Refused:
+        last = len(self.records) - 1
+        if not 0 <= node <= last:
+            return Refused(number, place, '', f'no node {node}, the last is {last}')
+        operation, most = _named(self._words[NODE_WORDS * node]), prod(self.records[node].extents) - 1
+        return Refused(number, place, '', f'no element {element} in node {node} ({operation}), its last is {most}')
+
+
+# ---------------------------------------------------- the calls of the header
+
+def _derived(table: Memory) -> list[Record]:
+    derived = array('q', (0,)) * (RECORD_WORDS * MOST_NODES)
+    answer = _LIBRARY.lup_check(*_lent(table), *_lent(derived))
     if answer.number:
-        raise Refused(answer.number, answer.place)
-    return answer
-
-
-def unpack(data):
-    """The table of a packed plan, 17 words a node."""
-    table, data = _fresh('q', NODE_WORDS * MOST_NODES), bytes(data)
-    answer = _accepted(_LIBRARY.lup_unpack(data, len(data), *_lent(table)))
-    return table[:NODE_WORDS * answer.count]
-
-
-def check(table):
-    """What is derived of each node of a plan's table."""
-    table, derived = _held(table, 'q'), array('q', bytes(8 * RECORD_WORDS * MOST_NODES))
-    _accepted(_LIBRARY.lup_check(*_lent(table), *_lent(derived)))
-    nodes = len(table) // NODE_WORDS
-    rows = [derived[RECORD_WORDS * n:RECORD_WORDS * (n + 1)].tolist() for n in range(nodes)]
+        raise _refused_table(answer.number, answer.place, table)
+    nodes = range(len(table) // NODE_WORDS)
+    rows = [derived[RECORD_WORDS * node:RECORD_WORDS * (node + 1)].tolist() for node in nodes]
     return [Record(*row[:4], tuple(extent for extent in row[4:] if extent)) for row in rows]
 
 
-def unpack_check(data):
+def unpack(data: Numbers) -> Memory:
+    """The table of a packed plan, 17 words a node."""
+    table, held = _fresh('q', NODE_WORDS * MOST_NODES), _held(data, 'B', 'data')
+    answer = _LIBRARY.lup_unpack(*_lent(held), *_lent(table))
+    if answer.number:
+        raise Refused(answer.number, answer.place)
+    return table[:NODE_WORDS * answer.count]
+
+
+def check(table: Union[Plan, Numbers]) -> list[Record]:
+    """What is derived of each node of a plan's table."""
+    return list(Plan.of_table(table).records)
+
+
+def unpack_check(data: Numbers) -> int:
     """The node count of a packed plan that is accepted."""
-    data = bytes(data)
-    answer = _LIBRARY.lup_unpack_check(data, len(data))
-    if answer >= 65536:
-        raise Refused(*divmod(answer, 65536))
-    return answer
+    held = _held(data, 'B', 'data')
+    answer = _LIBRARY.lup_unpack_check(*_lent(held))
+    if answer < 65536:
+        return answer
+    number, place = divmod(answer, 65536)
+    raise Refused(number, place) if number >= 20 else _refused_table(number, place, unpack(held))
 
 
-def run(table, values, flags):
-    """Every element of every node, on the elements of all PARAMs end to end: flag 1 a known number, 0 a gap, whatever its value is."""
-    table, values, flags = _held(table, 'q'), _held(values, 'q'), _held(flags, 'B')
-    extents = [record.extents for record in check(table)]
-    ends = [0]
-    for shape in extents:
-        ends.append(ends[-1] + prod(shape))
-    out_values, out_flags = _fresh('q', ends[-1]), _fresh('B', ends[-1])
-    answer = _accepted(_LIBRARY.lup_run(*_lent(table), *_lent(values), *_lent(flags), *_lent(out_values), *_lent(out_flags)))
-    return Result(out_values, out_flags, [slice(*pair) for pair in zip(ends, ends[1:])], answer.count)
+def run(table: Union[Plan, Numbers], values: Numbers, flags: Optional[Numbers] = None) -> Result:
+    """Plan.run of a table, or of a Plan."""
+    return Plan.of_table(table).run(values, flags)
 
 
-def lookup(table, node, element):
-    """The place that an element of a node comes from; None where it is a gap that a PAD put there."""
-    if not (0 <= node < 2 ** 64 and 0 <= element < 2 ** 64):
-        raise Refused(17, 0)
-    table = _held(table, 'q')
-    found = _accepted(_LIBRARY.lup_lookup(*_lent(table), node, element))
-    return Place(found.node, found.element) if found.found == 1 else None
+def lookup(table: Union[Plan, Numbers], node: int, element: int) -> Optional[Place]:
+    """Plan.lookup in a table, or in a Plan."""
+    return Plan.of_table(table).lookup(node, element)

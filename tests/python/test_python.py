@@ -1,38 +1,74 @@
 #!/usr/bin/env python3
-"""The Python module against the independent model, with numpy where it is there and without it; a case is the same with both.
+"""The Python module against the independent model, with numpy and without it; a case is the same with both. To be run by a Python that has
+numpy: Debian's python3-numpy is seen by /usr/bin/python3.
 
 usage: test_python.py [COUNT] [SEED]     last line: 'N passed, 0 failed'
 """
 
+import concurrent.futures
+import copy
+import ctypes
+import doctest
 import importlib
+import importlib.util
+import inspect
+import multiprocessing
 import os
+import pickle
+import re
+import subprocess
 import sys
+import tempfile
+import threading
 from array import array
+from contextlib import contextmanager
 from math import prod
 from random import Random
+from time import perf_counter
 
 sys.dont_write_bytecode = True
 ROOT = os.path.dirname(os.path.dirname(os.path.dirname(os.path.abspath(__file__))))
-sys.path[:0] = [os.path.join(ROOT, part) for part in ('python', 'tests/model', 'tests/boundary', 'tests/tools')]
+PARTS = 'python', 'host', 'demo', 'tests/python', 'tests/host', 'tests/model', 'tests/boundary', 'tests/tools'
+sys.path[:0] = [os.path.join(ROOT, part) for part in PARTS]
 
 import cases  # noqa: E402
 import lookup_examples  # noqa: E402
+import lupasm  # noqa: E402
+import make_bay  # noqa: E402
 import model  # noqa: E402
 import run_cases  # noqa: E402
 import run_examples  # noqa: E402
+import wording  # noqa: E402
 from counting import Cases  # noqa: E402
+from watched import forms, watching  # noqa: E402
+
+try:
+    import numpy
+except ImportError:
+    sys.exit('test_python.py: this Python has no numpy; Debian has it as python3-numpy, for /usr/bin/python3')
+
+# README's example: two numbers, padded to four at 1.
+SMALL = cases.param(0, 2, -9, 9, (2,)) + cases.move(cases.PAD, 0, (4,), (1,))
+SLOWER = 1.3
 
 
 def modules():
-    """The module as it is imported here and, where numpy is here, once more without it."""
+    """The module as it is imported here, and once more without numpy."""
     found = [importlib.import_module('lupetzarin')]
-    if found[0].numpy:
-        kept = sys.modules.pop('numpy')
-        sys.modules['numpy'] = None
-        del sys.modules['lupetzarin']
-        found.append(importlib.import_module('lupetzarin'))
-        sys.modules['numpy'] = kept
+    sys.modules['numpy'] = None
+    del sys.modules['lupetzarin']
+    found.append(importlib.import_module('lupetzarin'))
+    sys.modules['numpy'], sys.modules['lupetzarin'] = numpy, found[0]
+    assert found[0].numpy is numpy and found[1].numpy is None
     return found
+
+
+@contextmanager
+def imported(lup):
+    """The module is the one that is found by its name, which pickling asks for."""
+    kept, sys.modules['lupetzarin'] = sys.modules['lupetzarin'], lup
+    yield
+    sys.modules['lupetzarin'] = kept
 
 
 def told(lup, call, *arguments):
@@ -43,41 +79,81 @@ def told(lup, call, *arguments):
         return refusal.number, refusal.place
 
 
-def outcome(answer):
-    return answer[:2] if answer[0] else None
+def words(call, *arguments):
+    """The kind and the words of what a call raises."""
+    try:
+        return 'nothing was raised', call(*arguments)
+    except Exception as error:
+        return type(error).__name__, str(error)
 
 
 def given(lup, rng, values, code):
-    """The same numbers as a list, an array, or a numpy array."""
-    forms = [values, array(code, values)]
-    if lup.numpy:
-        forms.append(lup.numpy.array(values, 'int64' if code == 'q' else 'uint8'))
-    return rng.choice(forms)
+    """The same numbers in one of the forms that are taken."""
+    return rng.choice(list(forms(lup.numpy, values, code).values()))
+
+
+def masked(values, flags, order='C', shape=None):
+    shape = shape or (len(values),)
+    data = numpy.array(values, 'int64').reshape(shape).copy(order=order)
+    return numpy.ma.array(data, mask=(numpy.array(flags, 'uint8') == 0).reshape(shape).copy(order=order))
+
+
+# ------------------------------------------------------- against the model
+
+def test_result(tally, lup, got, records, wanted_values, wanted_flags, gaps):
+    tally.same('values', got.values.tolist(), wanted_values)
+    tally.same('flags', got.flags.tolist(), wanted_flags)
+    tally.same('gaps', got.gaps, gaps)
+    tally.same('records', [tuple(record) for record in got.records], [tuple(record) for record in records])
+    first = 0
+    for node, record in enumerate(records):
+        part = slice(first, first + prod(record.extents))
+        cells = [value if flag else None for value, flag in zip(wanted_values[part], wanted_flags[part])]
+        tally.same('a slice', got.nodes[node], part)
+        tally.same('cells', got.cells(node), cells)
+        if lup.numpy:
+            field = got.field(node)
+            tally.same('the shape of a field', field.shape, record.extents)
+            tally.same('a field', field.ravel().tolist(), cells)
+            filled = [cell if cell is not None else lup.FILL_VALUE for cell in cells]
+            tally.same('a field filled', (field.filled().ravel().tolist(), numpy.asarray(field).ravel().tolist()), (filled, filled))
+        first = part.stop
 
 
 def test_run(tally, lup, rng, table, values, flags):
+    """A run by the table and by a Plan, in several forms; the memory that the library gets is watched."""
     number, records = model.verdict(table)
     total = 0 if number else sum(prod(record.extents) for record in records)
     wanted_values, wanted_flags = [0] * total, [0] * total
     answer = model.run(table, values, flags, wanted_values, wanted_flags)
-    got = told(lup, lup.run, given(lup, rng, table, 'q'), given(lup, rng, values, 'q'), given(lup, rng, flags, 'B'))
-    if answer[0]:
-        tally.same('a run refused', got, tuple(answer[:2]))
-        return
-    tally.same('values', list(got.values), wanted_values)
-    tally.same('flags', list(got.flags), wanted_flags)
-    tally.same('gaps', got.gaps, answer[2])
-    tally.same('slices', [part.stop - part.start for part in got.nodes], [prod(record.extents) for record in records])
+    inputs = [(given(lup, rng, values, 'q'), given(lup, rng, flags, 'B'))]
+    if lup.numpy and len(values) == len(flags) and set(flags) <= {0, 1}:
+        inputs += [(masked(values, flags),), (masked(values, flags), given(lup, rng, flags, 'B'))]
+    for arguments in inputs:
+        with watching(tally, lup) as library:
+            plan = told(lup, lup.Plan.of_table, given(lup, rng, table, 'q'))
+            got = told(lup, plan.run, *arguments) if isinstance(plan, lup.Plan) else plan
+            if not number:
+                tally.same('what is handed over', library.read, [table, values, flags])
+            one = told(lup, lup.run, given(lup, rng, table, 'q'), *arguments)
+        if answer[0]:
+            tally.same('a run refused', (got, one), (tuple(answer[:2]),) * 2)
+            continue
+        test_result(tally, lup, got, records, wanted_values, wanted_flags, answer[2])
+        tally.same('the same by the table', (one.values.tolist(), one.flags.tolist(), one[2:]), (wanted_values, wanted_flags, got[2:]))
 
 
 def test_plan(tally, lup, rng, table):
     data = cases.pack(table)
-    tally.same('unpack', list(lup.unpack(data)), table)
     number, rest = model.verdict(table)
     wanted = (number, rest) if number else [tuple(record) for record in rest]
-    got = told(lup, lup.check, given(lup, rng, table, 'q'))
-    tally.same('check', got if number else [tuple(record) for record in got], wanted)
-    tally.same('unpack_check', told(lup, lup.unpack_check, data), (number, rest) if number else len(rest))
+    with watching(tally, lup):
+        tally.same('unpack', lup.unpack(given(lup, rng, list(data), 'B')).tolist(), table)
+        got = told(lup, lup.check, given(lup, rng, table, 'q'))
+        tally.same('check', got if number else [tuple(record) for record in got], wanted)
+        tally.same('unpack_check', told(lup, lup.unpack_check, data), (number, rest) if number else len(rest))
+        plan = told(lup, lup.Plan, data)
+        tally.same('a Plan', plan if number else (plan.table.tolist(), list(plan.records)), (number, rest) if number else (table, wanted))
 
 
 def test_examples(tally, lups, rng):
@@ -91,7 +167,11 @@ def test_examples(tally, lups, rng):
         wanted = (number, place) if number else (node, element) if kind == 1 else None
         with tally.case(example.name):
             for lup in lups:
-                tally.same(example.name, told(lup, lup.lookup, example.table, example.node, example.element), wanted)
+                with watching(tally, lup):
+                    tally.same(example.name, told(lup, lup.lookup, example.table, example.node, example.element), wanted)
+                    if not model.verdict(example.table)[0]:
+                        plan = lup.Plan.of_table(example.table)
+                        tally.same('by a Plan', told(lup, plan.lookup, example.node, example.element), wanted)
 
 
 def test_plans(tally, lups, rng, count):
@@ -102,53 +182,479 @@ def test_plans(tally, lups, rng, count):
                 test_run(tally, lup, rng, run.table, run.values, run.flags)
 
 
-def test_refusals(tally, lups):
+# ------------------------------------------------------------------ memory
+
+def test_forms(tally, lups):
+    """Every form of values, flags, tables and bytes, each alone: the library gets these numbers, and memory that the header allows."""
+    values, flags = [7, -2 ** 63], [1, 0]
+    for lup in lups:
+        for which, numbers, code in ((0, SMALL, 'q'), (1, values, 'q'), (2, flags, 'B')):
+            for name, form in forms(lup.numpy, numbers, code).items():
+                arguments = [SMALL, values, flags]
+                arguments[which] = form
+                with watching(tally, lup) as library:
+                    tally.same((name, which), lup.run(*arguments).cells(1), [None, 7, None, None])
+                    tally.same((name, which, 'handed over'), library.read, [SMALL, values, flags])
+                    kept = form.tolist() if hasattr(form, 'tolist') else list(form)
+                    tally.same((name, which, 'as it was'), sum(kept, []) if name == 'a column' else kept, numbers)
+        for name, form in {**forms(lup.numpy, cases.pack(SMALL), 'B'), 'bytes': cases.pack(SMALL), 'view': memoryview(cases.pack(SMALL))}.items():
+            with watching(tally, lup):
+                tally.same((name, 'data'), (lup.unpack(form).tolist(), lup.unpack_check(form)), (SMALL, 2))
+
+
+def test_no_copy(tally, lups):
+    """Memory that is what the header asks for is handed over as it is, and no other; results are fresh and can be written."""
+    straight = {'numpy', 'array', 'read-only', 'a column', 'a subclass'}
+    for lup in lups:
+        plan = lup.Plan.of_table(SMALL)
+        for which, numbers, code in ((1, [7, 5], 'q'), (2, [1, 0], 'B')):
+            for name, form in forms(lup.numpy, numbers, code).items():
+                arguments = [None, [7, 5], [1, 0]]
+                arguments[which] = form
+                with watching(tally, lup) as library:
+                    result = plan.run(*arguments[1:])
+                at = form.buffer_info()[0] if isinstance(form, array) else form.ctypes.data if hasattr(form, 'ctypes') else None
+                wanted = name in straight | ({'wider'} if code == 'q' else {'misaligned', 'another order'})
+                tally.same((name, which, 'no copy'), library.handed[which][1] == at, wanted)
+                result.values[0], result.flags[0] = 1, 1
+                again = form.tolist() if hasattr(form, 'tolist') else list(form)
+                tally.same((name, which, 'not shared'), sum(again, []) if name == 'a column' else again, numbers)
+        numbers, tried = array('q', [7, 5]), []
+        with watching(tally, lup) as library:
+            library.before = lambda: tried.append(words(numbers.append, 1)[0])
+            plan.run(numbers, [1, 0])
+        tally.same('an array is not moved while it is read', tried, ['BufferError'])
+        numbers.append(1)
+    bools = numpy.array([True, False])
+    with watching(tally, lups[0]) as library:
+        lups[0].run(SMALL, [7, 5], bools)
+    tally.same('bools are flags as they are', library.handed[2][1], bools.ctypes.data)
+
+
+# ------------------------------------------------------------------- masks
+
+def test_masks(tally, lup):
+    """A masked cell is a gap whatever lies under it, in every layout; results are masked where they are gaps."""
+    two = numpy.ma.array([7, 5], mask=[0, 1])
+    run = lup.Plan.of_table(SMALL).run
+    for arguments in ((two,), (two, None), (two, [1, 0]), (two, numpy.array([True, False])), (two, array('B', [1, 0]))):
+        tally.same('a masked cell', run(*arguments).cells(1), [None, 7, None, None])
+        tally.same('by the table', lup.run(SMALL, *arguments).flags.tolist(), [1, 0, 0, 1, 0, 0])
+    tally.same('no mask', run(numpy.ma.array([7, 5])).cells(1), [None, 7, 5, None])
+    tally.same('all masked', run(numpy.ma.masked_all(2, 'int64')).cells(1), [None] * 4)
+    tally.same('its hard mask', run(numpy.ma.array([7, 5], mask=[0, 1], hard_mask=True)).cells(1), [None, 7, None, None])
+    tally.same('a slice of a masked array', run(numpy.ma.array([1, 7, 2, 5], mask=[1, 0, 0, 1])[1::2]).cells(0), [7, None])
+    tally.same('the other byte order', run(two.astype('>i8')).cells(0), [7, None])
+    tally.same('nothing of it changes', (two.tolist(), two.data.tolist()), ([7, None], [7, 5]))
+    shaped = cases.param(0, 2, -9, 9, (2, 3))
+    for order in 'CF':
+        got = lup.run(shaped, masked(range(6), (1, 0, 1, 1, 1, 0), order, (2, 3)))
+        tally.same(('a layout', order), got.field(0).tolist(), [[0, None, 2], [3, 4, None]])
+    alone = numpy.ma.array(5, mask=True)
+    tally.same('a single cell', lup.run(cases.param(0, 2, -9, 9, ()), alone).field(0).tolist(), None)
+    big = numpy.ma.array(numpy.array([7, 2 ** 64 - 1], 'uint64'), mask=[0, 1])
+    tally.same('what lies under the mask', run(big).cells(1), [None, 7, None, None])
+
+
+WRONG_MASKS = (
+    ('flags that disagree', lambda run, two: run(two, [1, 1]), 'ValueError', 'flags: flag 1 is 1, and that cell of the values is masked'),
+    ('flags that disagree', lambda run, two: run(two, [0, 0]), 'ValueError', 'flags: flag 0 is 0, and that cell of the values is not masked'),
+    ('flags that disagree', lambda run, two: run(two, [2, 0]), 'ValueError', 'flags: flag 0 is 2, and that cell of the values is not masked'),
+    ('too few flags', lambda run, two: run(two, [1]), 'ValueError', 'flags: 1 of them, and the masked array has 2 cells'),
+    ('no flags', lambda run, two: run([7, 5]), 'TypeError',
+     'flags: none are given, and the values are no masked array: 1 is a known number, 0 a gap'),
+    ('no flags', lambda run, two: run(numpy.array([7, 5])), 'TypeError',
+     'flags: none are given, and the values are no masked array: 1 is a known number, 0 a gap'),
+    ('masked flags', lambda run, two: run(numpy.array([7, 5]), numpy.ma.array([1, 0], mask=[0, 1])), 'TypeError',
+     'flags: this is a masked array, which is taken as the values of a run alone'),
+    ('masked flags', lambda run, two: run(two, numpy.ma.array([1, 0])), 'TypeError',
+     'flags: this is a masked array, which is taken as the values of a run alone'),
+    ('a masked array in a list', lambda run, two: run([7, numpy.ma.array(5, mask=True)], [1, 1]), 'TypeError',
+     'values: whole numbers are wanted, and item 1 is masked_array('),
+    ('a masked cell in a list', lambda run, two: run([7, two[1]], [1, 1]), 'TypeError',
+     'values: whole numbers are wanted, and item 1 is masked (MaskedConstant)'),
+    ('a masked cell in a list of flags', lambda run, two: run([7, 5], [1, numpy.ma.array(1, mask=True)]), 'TypeError', 'flags: '),
+    ('masked floats', lambda run, two: run(two.astype(float)), 'TypeError', 'values: whole numbers are wanted, and this array is of float64'),
+    ('masked records', lambda run, two: run(numpy.ma.masked_all(2, [('a', 'i8')])), 'TypeError', 'values: whole numbers are wanted'),
+)
+
+
+def test_wrong_masks(tally, lup):
+    run, two = lup.Plan.of_table(SMALL).run, numpy.ma.array([7, 5], mask=[0, 1])
+    for what, call, kind, message in WRONG_MASKS:
+        got = words(call, run, two)
+        tally.same(what, (got[0], got[1][:len(message)]), (kind, message))
+    table, data = numpy.ma.array(SMALL), numpy.ma.array(list(cases.pack(SMALL)), 'uint8')
+    for call, *arguments in ((lup.check, table), (lup.run, table, [7, 5], [1, 1]), (lup.lookup, table, 0, 0), (lup.Plan.of_table, table),
+                             (lup.unpack, data), (lup.unpack_check, data), (lup.Plan, data), (lup.lookup, SMALL, 0, numpy.ma.array(1, mask=True))):
+        tally.same(('masked', call.__name__), words(call, *arguments)[0], 'TypeError')
+
+
+def test_fields(tally, lup):
+    """A gap of a result stays none when it is filled, cut to fewer bits or stripped of its mask."""
+    field = lup.run(SMALL, numpy.ma.array([7, 5], mask=[0, 1])).field(1)
+    tally.same('a field', (type(field), field.dtype, field.tolist()), (numpy.ma.MaskedArray, numpy.dtype('int64'), [None, 7, None, None]))
+    tally.same('its fill value', (int(field.fill_value), field.filled().tolist()[::2]), (lup.FILL_VALUE, [lup.FILL_VALUE] * 2))
+    for low, high in model.TYPE_LIMITS.values():
+        tally.same('is in no range', low <= lup.FILL_VALUE <= high, False)
+    for dtype in ('int32', 'int16', 'int8', 'float64'):
+        tally.same(('cut', dtype), bool((field.astype(dtype).filled()[[0, 2, 3]] < -100).all()), True)
+    tally.same('known everywhere', numpy.ma.is_masked(lup.run(SMALL, [7, 5], [1, 1]).field(0)), False)
+    result = lup.run(SMALL, [7, 5], [1, 0])
+    result.field(0)[:] = 9
+    tally.same('a copy', result.cells(0), [7, None])
+    tally.same('the output', (result.field(-1).tolist(), result.cells(-1)), ([None, 7, None, None],) * 2)
+    for node in (2, -3):
+        tally.same('no such node', words(result.field, node), ('IndexError', f'no node {node}, the last is 1'))
+        tally.same('no such node', words(result.cells, node), ('IndexError', f'no node {node}, the last is 1'))
+
+
+# ------------------------------------------------------------------- types
+
+def test_types(tally, lup):
+    """Which types are taken, and which are refused with a message; nothing is cast."""
+    run, flags = lup.Plan.of_table(SMALL).run, [1, 0]
+    for dtype in ('i1', 'i2', '<i4', '>i4', '<i8', '>i8', 'u1', '<u2', '>u2', '<u4', '<u8', '>u8'):
+        tally.same(('values', dtype), run(numpy.array([7, 5], dtype), flags).cells(0), [7, None])
+        tally.same(('flags', dtype), run([7, 5], numpy.array(flags, dtype)).cells(0), [7, None])
+    refused = [numpy.array([7, 5], dtype) for dtype in ('f2', 'f4', '>f8', 'f8', 'c16', 'O', 'U1', 'S1', 'm8[s]', 'M8[s]')]
+    for wrong in (*refused, numpy.array([7, numpy.nan]), numpy.array([7, None]), numpy.zeros(2, 'V8'), numpy.zeros(2, 'i4, i4')):
+        message = f'values: whole numbers are wanted, and this array is of {wrong.dtype}'
+        tally.same(('values', wrong.dtype), words(run, wrong, flags), ('TypeError', message))
+        tally.same(('flags', wrong.dtype), words(run, [7, 5], wrong), ('TypeError', message.replace('values', 'flags')))
+        tally.same(('table', wrong.dtype), words(lup.check, wrong), ('TypeError', message.replace('values', 'table')))
+    large = numpy.array([7, 2 ** 63], 'uint64')
+    message = 'values: position 1 holds 9223372036854775808, not -9223372036854775808..9223372036854775807'
+    tally.same('uint64', words(run, large, [1, 1]), ('OverflowError', message))
+    tally.same('uint64 in a masked array', words(run, numpy.ma.array(large)), ('OverflowError', message))
+    tally.same('uint64 under a gap', run(large, flags).cells(0), [7, None])
+    tally.same('the greatest', words(run, numpy.array([7, 2 ** 63 - 1], 'uint64'), [1, 1])[1][-26:], '9223372036854775807, not -9..9'[-26:])
+    for number, dtype in ((256, 'int64'), (-1, 'int8'), (2 ** 64 - 1, 'uint64'), (-256, 'int16'), (257, '>u2')):
+        wrong = words(run, [7, 5], numpy.array([1, number], dtype))
+        tally.same(('a flag', number), wrong, ('OverflowError', f'flags: position 1 holds {number}, not 0..255'))
+    tally.same('bools for a number', words(run, numpy.array([True, False]), flags), ('TypeError',
+               'values: whole numbers are wanted, and this array is of bool (bools are taken as values where every PARAM is bool)'))
+    truth = cases.param(0, 0, 0, 1, (2,))
+    tally.same('bools for a bool', lup.run(truth, numpy.array([True, False]), [1, 1]).cells(0), [1, 0])
+    tally.same('masked bools', lup.run(truth, numpy.ma.array([True, True], mask=[0, 1])).cells(0), [1, None])
+    mixed = truth + cases.param(1, 1, 0, 1, (1,))
+    tally.same('bools for a bool and a u8', words(lup.run, mixed, numpy.ones(3, bool), [1] * 3)[0], 'TypeError')
+    tally.same("numpy's own numbers", run([numpy.int8(7), numpy.uint64(5)], [numpy.bool_(True), False]).cells(0), [7, None])
+
+
+def test_sequences(tally, lups):
+    """The same of lists and arrays, with numpy and without it."""
+    for lup in lups:
+        run = lup.Plan.of_table(SMALL).run
+        for wrong, shown in ((1.0, '1.0 (float)'), (float('nan'), 'nan (float)'), (None, 'None (NoneType)'), ('5', "'5' (str)"), ([5], '[5] (list)')):
+            message = f'values: whole numbers are wanted, and item 1 is {shown}'
+            tally.same(('values', shown), words(run, [7, wrong], [1, 0]), ('TypeError', message))
+            tally.same(('flags', shown), words(run, [7, 5], [1, wrong])[0], 'TypeError')
+            tally.same(('a lookup', shown), words(lup.lookup, SMALL, 0, wrong), ('TypeError', f'element: a whole number is wanted, and this is {shown}'))
+        tally.same('an array of floats', words(run, array('d', [7, 5]), [1, 0])[0], 'TypeError')
+        tally.same('no sequence', words(run, 7, [1, 0]), ('TypeError', 'values: whole numbers are wanted, and this is 7 (int)'))
+        tally.same('text', words(lup.unpack, '12')[0], 'TypeError')
+        tally.same('a number of bytes', words(lup.unpack, 3)[0], 'TypeError')
+        for number, flag, message in ((2 ** 63, 1, 'values: item 1 is 9223372036854775808, not -9223372036854775808..9223372036854775807'),
+                                      (5, 256, 'flags: item 1 is 256, not 0..255'), (5, -1, 'flags: item 1 is -1, not 0..255')):
+            tally.same(('too large', number, flag), words(run, [7, number], [1, flag]), ('OverflowError', message))
+        tally.same('bytes are numbers each', run(b'\x07\x05', b'\x01\x00').cells(0), [7, None])
+        tally.same('another type of array', run(array('h', [7, 5]), array('l', [1, 0])).cells(0), [7, None])
+        tally.same('bools', run(iter([7, 5]), [True, False]).cells(0), [7, None])
+    tally.same('a field without numpy', words(lups[1].run(SMALL, [7, 5], [1, 0]).field, 1)[0], 'ImportError')
+
+
+# ---------------------------------------------------------------- refusals
+
+def c_words(text, name):
+    """The words of a table of host/plan.c, by their index."""
+    body = text[text.index(f'const {name}[] = {{'):]
+    return dict(re.findall(r'\[(\w+)\] = "(?:: )?([^"]*)"', body[:body.index('};')]))
+
+
+def test_rules(tally, lups):
+    with open(os.path.join(ROOT, 'host', 'plan.c'), encoding='utf-8') as file:
+        text = file.read()
+    rules = {int(number): said for number, said in c_words(text, 'RULES').items()}
+    for lup in lups:
+        tally.same('the words of lup', {number: said for number, (_, said) in lup.RULES.items()}, rules)
+        tally.same('its words on rule 7', lup.ROWS, c_words(text, 'ROWS'))
+        tally.same('an unknown number', str(lup.Refused(99, 3)), 'refused 99: a rule that this module does not know')
+        tally.same('number and place alone', str(lup.Refused(8, 14)), 'refused 8 at node 14: shapes disagree, or over 1048576 elements')
+
+
+def refused_plans(count, seed):
+    """Packed plans that are refused with each number that bytes can have, `count` of each at most."""
+    found = {}
+    for case in cases.all_cases(seed):
+        if case.call in ('check', 'unpack', 'unpack_check'):
+            try:
+                data = cases.pack(case.args[0]) if case.call == 'check' else case.args[0]
+            except (IndexError, ValueError):
+                continue
+            number = model.unpack_and_verdict(data)[0]
+            if number and len(found.setdefault(number, set())) < count:
+                found[number].add(data)
+    return found
+
+
+def test_plan_words(tally, lups):
+    """What is said of a plan is what lup says, by the wording that lup's own tests have."""
+    found = refused_plans(6, 3)
+    tally.same('every number', sorted(found), [4, 5, 6, 7, 8, 9, 10, 11, 12, 20, 21, 22, 23, 24])
+    for lup in lups:
+        for data in sorted(set().union(*found.values())):
+            wanted = 'Refused', wording.refusal_text('x', data).removeprefix('lup: x: ').rstrip('\n')
+            tally.same(data.hex(), (words(lup.Plan, data), words(lup.unpack_check, data)), (wanted, wanted))
+    for lup in lups:
+        for table, message in (([1] * 35, 'refused 1: length no multiple of 17, or not 1..256 nodes: 35 words'),
+                               ([], 'refused 1: length no multiple of 17, or not 1..256 nodes: 0 words'),
+                               ([*SMALL, 99, *[0] * 16], 'refused 2 at node 2 (operation 99): operation not 0..20'),
+                               ([*SMALL, -1, *[0] * 16], 'refused 2 at node 2 (operation -1): operation not 0..20'),
+                               ([9, 0, 0, 1, *[0] * 13], 'refused 3 at node 0 (ADD): unused word not zero')):
+            for call in (lup.check, lup.Plan.of_table):
+                tally.same(message, words(call, table), ('Refused', message))
+            tally.same(message, words(lup.run, table, [], []), ('Refused', message))
+
+
+def test_run_words(tally, lups):
+    """13, 15, 16 and 17 say what was found and what was wanted; 16 and 17 as lup does."""
+    table = cases.const(2, 3) + cases.param(0, 2, -9, 9, (2,)) + cases.param(1, 1, 5, 6, ()) + cases.param(2, 3, 0, 99, (2, 1, 2, 3))
+    values, count = [0, 0, 5] + [0] * 12, 15
+    for lup in lups:
+        plan = lup.Plan.of_table(table)
+        for place in range(count):
+            for wrong in (100, -10, 2 ** 63 - 1):
+                spoilt = values[:place] + [wrong] + values[place + 1:]
+                text = wording.position_text('x', ['f'] * 3, table, spoilt, place).removeprefix('lup: f: ').rstrip('\n')
+                wanted = text.replace(' of x, input', ', input')
+                tally.same(('16', place), words(plan.run, spoilt, [1] * count), ('Refused', wanted))
+                wanted = re.sub('^refused 16(.*): known .*', r'refused 15\1: flag neither 0 nor 1: 2', wanted)
+                flags = [1] * place + [2] + [1] * (count - 1 - place)
+                tally.same(('15', place), words(plan.run, spoilt, flags), ('Refused', wanted))
+        for given_values, given_flags in ((14, 15), (15, 16), (0, 0)):
+            wanted = f'refused 13: input length is not the PARAM total: {given_values} values and {given_flags} flags, not 15'
+            tally.same('13', words(plan.run, [0] * given_values, [0] * given_flags), ('Refused', wanted))
+        for node, element in ((4, 0), (0, 1), (1, 2), (3, 12), (2 ** 64 - 1, 0), (2 ** 64, 0), (1, 2 ** 70)):
+            wanted = wording.lookup_texts('x', table, node, element)[2].removeprefix('lup: x: ').rstrip('\n')
+            tally.same(('17', node, element), words(plan.lookup, node, element), ('Refused', wanted))
+            tally.same(('17', node, element), told(lup, lup.lookup, table, node, element), (17, 0))
+        for node, element, said in ((-1, 0, 'no node -1, the last is 3'), (1, -1, 'no element -1 in node 1 (PARAM), its last is 1')):
+            tally.same(said, words(plan.lookup, node, element), ('Refused', 'refused 17: lookup node or element not there: ' + said))
+
+
+def test_unpacking(tally, lups):
     for data in (b'', bytes.fromhex('010004'), bytes.fromhex('8000'), bytes.fromhex('0115'), bytes.fromhex('0100040A00')):
         answer = model.unpack(data, [0] * 4352)
         with tally.case(('unpack', data.hex())):
             for lup in lups:
                 tally.same(data.hex(), told(lup, lup.unpack, data), tuple(answer[:2]))
-    with tally.case('a negative node'):
-        for lup in lups:
-            tally.same('a negative node', told(lup, lup.lookup, cases.const(2, 5), -1, 0), (17, 0))
-    with tally.case('the words of a refusal'):
-        for lup in lups:
-            tally.same('the words of a refusal', str(lup.Refused(8, 14)), 'refused 8 at node 14: shapes disagree, or over 1048576 elements')
 
 
-def test_numpy(tally, lup):
-    """No copy is made of what is laid out as the library wants it, and nothing is rounded."""
-    numbers = lup.numpy.arange(6, dtype='int64')
-    tally.same('no copy', lup._lent(lup._held(numbers, 'q'))[0], numbers.ctypes.data)
-    flags = lup.numpy.array([True, False])
-    tally.same('flags that are bools', lup._held(flags, 'B').tolist(), [1, 0])
-    tally.same('every other number', lup._held(numbers[::2], 'q').tolist(), [0, 2, 4])
-    return (lup.numpy.array([1.5]), 'q', TypeError), (lup.numpy.array([256]), 'B', OverflowError)
+def in_child(table, values, flags):
+    """A run in another process."""
+    return importlib.import_module('lupetzarin').run(table, values, flags)
 
 
-def test_memory(tally, lups):
-    """The same of arrays and lists."""
+def copies(thing):
+    """What pickle and copy make of it, in every way."""
+    yield from (pickle.loads(pickle.dumps(thing, protocol)) for protocol in range(pickle.HIGHEST_PROTOCOL + 1))
+    yield from (copy.copy(thing), copy.deepcopy(thing))
+    if importlib.util.find_spec('distributed'):
+        protocol = importlib.import_module('distributed.protocol.pickle')
+        yield protocol.loads(protocol.dumps(thing))
+
+
+def test_pickling(tally, lups):
+    """Refusals, plans, results, records and places survive pickling and copying."""
     for lup in lups:
-        numbers = array('q', range(6))
-        tally.same('no copy', lup._lent(lup._held(numbers, 'q')), numbers.buffer_info())
-        tally.same('another type', lup._held(array('i', [0, 1]), 'B').tolist(), [0, 1])
-        wrongs = test_numpy(tally, lup) if lup.numpy else ()
-        for wrong, code, error in (([1.5], 'q', TypeError), ([256], 'B', OverflowError), ([-1], 'B', OverflowError), *wrongs):
+        with imported(lup):
+            plan = lup.Plan.of_table(SMALL)
             try:
-                tally.same(('refused', wrong), lup._held(wrong, code), error)
-            except error:
-                tally.same(('refused', wrong), error, error)
+                plan.run([7, 50], [1, 1])
+            except lup.Refused as error:
+                refusal = error
+            refusal.add_note('a note')
+            said = 'refused 16 at element 1 (column 1) of PARAM 0 (node 0, input position 1): known number outside limits: 50, not -9..9'
+            for twin in (refusal, *copies(refusal)):
+                tally.same('a refusal', (type(twin), twin.number, twin.place, str(twin), twin.args, twin.__notes__),
+                           (lup.Refused, 16, 1, said, refusal.args, ['a note']))
+            for twin in (plan, *copies(plan)):
+                tally.same('a plan', (type(twin), twin.table.tolist(), twin.records, twin.nodes), (lup.Plan, SMALL, plan.records, plan.nodes))
+                tally.same('a run of it', twin.run([7, 5], [1, 0]).cells(1), [None, 7, None, None])
+            result = plan.run([7, 5], [1, 0])
+            for twin in copies(result):
+                tally.same('a result', (type(twin), twin.cells(1), twin[2:]), (lup.Result, [None, 7, None, None], result[2:]))
+            for thing in (plan.records[1], plan.lookup(1, 1)):
+                for twin in copies(thing):
+                    tally.same('a tuple', (type(twin), twin), (type(thing), thing))
+
+
+def test_pool(tally):
+    """A process pool hands on a refusal, and takes and gives plans and results."""
+    lup = importlib.import_module('lupetzarin')
+    with concurrent.futures.ProcessPoolExecutor(1, multiprocessing.get_context('spawn')) as pool:
+        for inputs in (([7, 50], [1, 1]), ([7], [1]), ([7, 5], [1, 3])):
+            here, there = words(in_child, SMALL, *inputs), words(pool.submit(in_child, SMALL, *inputs).result)
+            tally.same(('refused', inputs), (here[0], there), ('Refused', here))
+            tally.same(('number and place', inputs), told(lup, pool.submit(in_child, SMALL, *inputs).result), told(lup, in_child, SMALL, *inputs))
+        plan, two = lup.Plan.of_table(SMALL), numpy.ma.array([7, 5], mask=[0, 1])
+        result = pool.submit(in_child, plan, two, None).result()
+        tally.same('a plan and a masked array', (type(result), result.field(1).tolist()), (lup.Result, [None, 7, None, None]))
+
+
+# ------------------------------------------------------------------- plans
+
+def test_plan_object(tally, lups):
+    """A Plan does not change with the table that it was made of, and serves several threads."""
+    for lup in lups:
+        for table in (array('q', SMALL), *([numpy.array(SMALL)] if lup.numpy else [])):
+            plan = lup.Plan.of_table(table)
+            table[0] = 99
+            plan.table[0] = 98
+            tally.same('a Plan by itself', (plan.table.tolist(), plan.run([7, 5], [1, 0]).cells(1)), (SMALL, [None, 7, None, None]))
+        tally.same('its sizes', (plan.inputs, plan.elements, plan.nodes, repr(plan)),
+                   (2, 6, (slice(0, 2), slice(2, 6)), '<Plan of 2 nodes, 2 inputs and 6 elements>'))
+        tally.same('a Plan of a Plan', lup.Plan.of_table(plan) is plan, True)
+        tally.same('the calls on a Plan', (lup.check(plan), lup.run(plan, [7, 5], [1, 0]).gaps, lup.lookup(plan, 1, 1), lup.lookup(plan, 1, 0)),
+                   (list(plan.records), 3, (0, 0), None))
+        found = []
+        threads = [threading.Thread(target=lambda k=k: found.append((k, [plan.run([k, 5], [1, 0]).cells(0) for _ in range(200)]))) for k in range(8)]
+        for thread in threads:
+            thread.start()
+        for thread in threads:
+            thread.join()
+        tally.same('threads', sorted(found), [(k, [[k, None]] * 200) for k in range(8)])
+
+
+def test_checked_once(tally, lups):
+    """A run of a Plan is one call of the library."""
+    for lup in lups:
+        plan = lup.Plan(cases.pack(SMALL))
+        with watching(tally, lup) as library:
+            made = []
+            library.look = lambda name, arguments: made.append(name)
+            plan.run([7, 5], [1, 0])
+            plan.lookup(1, 1)
+            tally.same('calls', made, ['lup_run', 'lup_lookup'])
+
+
+def bay_inputs():
+    """The demo's plan and its inputs, one strip missing."""
+    with open(os.path.join(ROOT, 'demo', 'bay.lup'), encoding='utf-8') as file:
+        table = lupasm.table_of(file.read())
+    strips = [value for k in range(make_bay.STRIPS) for value in make_bay.strip(k)]
+    flags = [int(k != make_bay.DEAD) for k in range(make_bay.STRIPS) for _ in range(make_bay.ROWS * make_bay.WIDTH)]
+    zones = [make_bay.zone_of(column) for _ in range(make_bay.ROWS) for column in range(make_bay.COLUMNS)]
+    return table, numpy.array(strips + zones), numpy.array(flags + [1] * len(zones), 'uint8')
+
+
+def best(call, repeats=100):
+    """The least seconds of a call."""
+    least = float('inf')
+    for _ in range(repeats):
+        start = perf_counter()
+        call()
+        least = min(least, perf_counter() - start)
+    return least
+
+
+def test_speed(tally, lup):
+    """A run of the demo's plan by a Plan against the library's call on memory that is there: the best of rounds in turn, as many as it takes
+    on a machine that is busy, 60 at most."""
+    table, values, flags = bay_inputs()
+    plan = lup.Plan.of_table(table)
+    result = plan.run(values, flags)
+    words_held = numpy.array(table)
+    buffers = [part for memory in (words_held, values, flags, *result[:2]) for part in (memory.ctypes.data, memory.size)]
+    call, both = lup._LIBRARY.lup_run, numpy.ma.array(values, mask=flags == 0)
+    raw = own = veiled = float('inf')
+    for rounds in range(60):
+        raw, own = min(raw, best(lambda: call(*buffers))), min(own, best(lambda: plan.run(values, flags)))
+        veiled = min(veiled, best(lambda: plan.run(both)))
+        if rounds >= 5 and own <= SLOWER * raw:
+            break
+    print(f'the demo\'s plan: {1e6 * raw:.1f} µs raw, {own / raw:.2f} times that by a Plan, {veiled / raw:.2f} with a mask')
+    tally.holds('at most 1.3 times', own <= SLOWER * raw, own / raw)
+    tally.same('the same fields', [plan.run(both).field(81).tolist(), result.gaps], [result.field(81).tolist(), plan.run(both).gaps])
+
+
+# ---------------------------------------------------------------- documents
+
+def test_hints(tally, lups):
+    """Every function is annotated, whatever is public has a docstring, and py_compile takes the file."""
+    for lup in lups:
+        for name, thing in vars(lup).items():
+            methods = vars(thing).items() if inspect.isclass(thing) and thing.__module__ == lup.__name__ else ()
+            for label, function in ((name, thing), *methods):
+                function = getattr(function, '__func__', getattr(function, 'fget', function))
+                if not inspect.isfunction(function) or function.__code__.co_filename != lup.__file__:
+                    continue
+                hints = function.__annotations__
+                bare = [argument for argument in inspect.signature(function).parameters if argument not in ('self', 'cls', *hints)]
+                tally.same(('hints', name, label), (bare, 'return' in hints), ([], True))
+                if not name.startswith('_') and not label.startswith('_'):
+                    tally.holds(('a docstring', name, label), function.__doc__)
+        for name in lup.__all__:
+            thing = getattr(lup, name)
+            tally.holds(('public', name), thing.__doc__ if callable(thing) else thing)
+    with tempfile.TemporaryDirectory() as folder:
+        command = "import sys, py_compile; py_compile.compile(sys.argv[1], sys.argv[2], doraise=True)"
+        done = subprocess.run([sys.executable, '-W', 'error', '-c', command, lups[0].__file__, os.path.join(folder, 'lup.pyc')], check=False)
+    tally.same('compiled', done.returncode, 0)
+
+
+def readme_session():
+    """README's session in Python: the commands before it, and its lines."""
+    with open(os.path.join(ROOT, 'README.md'), encoding='utf-8') as file:
+        part = file.read().split('\n## Using it from Python\n')[1].split('\n## ')[0]
+    lines = [line[4:] for line in part.split('\n') if line.startswith('    ')]
+    commands = [line[2:] for line in lines if line.startswith('$ ')]
+    return commands, '\n'.join(line for line in lines if not line.startswith('$ ')) + '\n'
+
+
+SESSION = """
+import doctest, sys
+text = sys.stdin.read()
+test = doctest.DocTestParser().get_doctest(text, {}, 'README', 'README.md', 0)
+print(doctest.DocTestRunner().run(test))
+"""
+
+
+def test_readme(tally):
+    """README's session, typed as it is printed, in a folder with what a checkout has after make."""
+    commands, text = readme_session()
+    count = text.count('>>> ')
+    tally.same('the session', (len(commands) >= 2, count >= 6, commands[-1].endswith('/usr/bin/python3')), (True, True, True))
+    with tempfile.TemporaryDirectory() as folder:
+        for part in ('host', 'demo', 'python', 'build'):
+            os.symlink(os.path.join(ROOT, part), os.path.join(folder, part))
+        clean = {key: value for key, value in os.environ.items() if not key.startswith(('PYTHON', 'LUPETZARIN'))}
+        clean['PYTHONDONTWRITEBYTECODE'] = '1'
+        for command in commands[:-1]:
+            done = subprocess.run(['sh', '-c', command], cwd=folder, env=clean, capture_output=True, text=True, check=False)
+            tally.same(command, (done.returncode, done.stdout, done.stderr), (0, '', ''))
+        done = subprocess.run(['sh', '-c', commands[-1] + ' -c "$0"', SESSION], cwd=folder, env=clean, input=text, capture_output=True, text=True,
+                              check=False)
+    tally.same('as printed', (done.stdout, done.stderr), (f'TestResults(failed=0, attempted={count})\n', ''))
 
 
 def main():
     count = int(sys.argv[1]) if len(sys.argv) > 1 else 400
     rng, tally, lups = Random(int(sys.argv[2]) if len(sys.argv) > 2 else 5), Cases(), modules()
-    print('with numpy and without it' if lups[0].numpy else 'numpy is not here')
     test_examples(tally, lups, rng)
     test_plans(tally, lups, rng, count)
-    test_refusals(tally, lups)
-    with tally.case('memory that is handed over'):
-        test_memory(tally, lups)
+    test_unpacking(tally, lups)
+    for what, test, arguments in (
+            ('every form of memory', test_forms, (lups,)), ('memory that is handed over', test_no_copy, (lups,)),
+            ('masks', test_masks, (lups[0],)), ('wrong masks', test_wrong_masks, (lups[0],)), ('fields', test_fields, (lups[0],)),
+            ('types', test_types, (lups[0],)), ('sequences', test_sequences, (lups,)), ('the words of rules', test_rules, (lups,)),
+            ('the words of plans', test_plan_words, (lups,)), ('the words of runs', test_run_words, (lups,)),
+            ('pickling', test_pickling, (lups,)), ('a process pool', test_pool, ()), ('plans', test_plan_object, (lups,)),
+            ('checked once', test_checked_once, (lups,)), ('speed', test_speed, (lups[0],)), ('hints', test_hints, (lups,)),
+            ('README', test_readme, ())):
+        with tally.case(what):
+            test(tally, *arguments)
     tally.finish()
 
 
