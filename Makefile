@@ -60,7 +60,9 @@ build/bench_run: bench/run.c bench/join.c bench/plans.c bench/plain_run.c bench/
 build/join.plan: build/bench_run
 	build/bench_run write $@
 
+# The tests of the Python module need numpy: Debian's, which the system's own Python sees.
 test:
+	@tools/setup python3-numpy
 	@tests/run
 
 linked: build/linked

@@ -1,6 +1,6 @@
 #!/usr/bin/env python3
 """Tests the gate itself: how it counts (steps.sh, counting.py), on made-up steps, checks and cases; that tests/run
-runs every test; what map_names.py refuses.
+runs every test; what tools/setup installs; what map_names.py refuses.
 
 usage: test_gate.py     last line: 'N passed, 0 failed'
 """
@@ -9,6 +9,7 @@ import contextlib
 import glob
 import io
 import os
+import shutil
 import subprocess
 import sys
 import tempfile
@@ -168,13 +169,66 @@ def test_cases(tally):
 
 
 def test_run(tally):
-    """tests/run counts by steps.sh, ends with it, and runs every test and every program of tests/tools."""
+    """tests/run counts by steps.sh, ends with it, and runs every test and every program of tests/tools; that of Python
+    by the system's own Python, for whose numpy the Makefile asks."""
     with open(os.path.join(ROOT, 'tests', 'run'), encoding='utf-8') as file:
         text = file.read()
     tally.same('tests/run', ('\n. tests/tools/steps.sh\n' in text, text.endswith('\nfinish\n')), (True, True))
     paths = {*glob.glob('tests/*/test_*.py', root_dir=ROOT), *glob.glob('tests/tools/*.py', root_dir=ROOT)}
     for path in sorted(paths - {'tests/tools/counting.py'}):
-        tally.holds((path, 'is run'), f' python3 {path}' in text)
+        tally.holds((path, 'is run'), f' python3 {path}' in text or f' /usr/bin/python3 {path}\n' in text)
+    tally.holds('by the system\'s own Python', ' /usr/bin/python3 tests/python/test_python.py\n' in text)
+    with open(os.path.join(ROOT, 'Makefile'), encoding='utf-8') as file:
+        tally.holds('numpy is asked for', '\ntest:\n\t@tools/setup python3-numpy\n\t@tests/run\n' in file.read())
+
+
+# Made-up programs for tools/setup: what is installed stands in a file, and what apt-get was asked for in another.
+PROGRAMS = {
+    'dpkg-query': 'for name; do :; done\nif grep -qx "$name" installed; then echo installed\n'
+                  'elif grep -qx "$name" removed; then echo config-files; else exit 1; fi',
+    'apt-get': 'echo "$@" >>asked\ncase $1 in update) : >fetched ;; install)\n[ -e offline ] && exit 100\n'
+               '[ -e stale ] && [ ! -e fetched ] && exit 100\nfor name; do echo "$name" >>installed; done ;; esac',
+    'id': 'cat uid',
+    'sudo': '[ -e sudoers ] || exit 1\necho sudo "$@" >>asked\nshift\nexec "$@"',
+}
+INSTALL = 'install -y --no-install-recommends '
+SUDO = 'sudo -n env DEBIAN_FRONTEND=noninteractive apt-get '
+TYPE = '; type: sudo apt-get update && sudo apt-get install -y '
+# What is there, the packages, and: the status, what is said, what apt-get and sudo were asked.
+SETUPS = (
+    ({'installed': 'a\nb\n', 'uid': '0'}, 'a', 0, '', ''),
+    ({'installed': 'a\nb\n', 'uid': '1'}, 'a b', 0, '', ''),
+    ({'installed': 'a\n', 'uid': '0'}, 'a b', 0, 'tools/setup: installing b\n', f'{INSTALL}b\n'),
+    ({'installed': '', 'removed': 'a\n', 'uid': '0'}, 'a b', 0, 'tools/setup: installing a b\n', f'{INSTALL}a b\n'),
+    ({'installed': 'ab\n', 'uid': '0', 'stale': ''}, 'a', 0, 'tools/setup: installing a\n', f'{INSTALL}a\nupdate\n{INSTALL}a\n'),
+    ({'installed': '', 'uid': '1', 'sudoers': ''}, 'a', 0, 'tools/setup: installing a\n',
+     f'sudo -n true\n{SUDO}{INSTALL}a\n{INSTALL}a\n'),
+    ({'installed': '', 'uid': '1'}, 'a b', 1, f'tools/setup: missing: a b, and this is not root{TYPE}a b\n', ''),
+    ({'installed': 'b\n', 'uid': '0', 'offline': ''}, 'a b', 1,
+     f'tools/setup: installing a\ntools/setup: a could not be installed{TYPE}a\n', f'{INSTALL}a\nupdate\n{INSTALL}a\n'),
+    ({'uid': '0'}, '', 2, 'tools/setup: no package is named; usage: tools/setup PACKAGE..\n', ''),
+)
+
+
+def test_setup(tally):
+    """tools/setup on a made-up machine."""
+    for files, packages, *wanted in SETUPS:
+        with tempfile.TemporaryDirectory() as folder:
+            for name, text in {'installed': '', 'removed': '', 'asked': '', **files}.items():
+                with open(os.path.join(folder, name), 'w', encoding='utf-8') as file:
+                    file.write(text)
+            os.mkdir(os.path.join(folder, 'bin'))
+            for name, text in PROGRAMS.items():
+                with open(os.path.join(folder, 'bin', name), 'w', encoding='utf-8') as file:
+                    file.write(f'#!/bin/sh\n{text}\n')
+                os.chmod(file.name, 0o755)
+            for name in ('grep', 'env', 'cat', 'true', 'sh'):
+                os.symlink(shutil.which(name), os.path.join(folder, 'bin', name))
+            done = subprocess.run([os.path.join(ROOT, 'tools', 'setup'), *packages.split()], cwd=folder, text=True, timeout=60,
+                                  check=False, stdout=subprocess.PIPE, stderr=subprocess.STDOUT,
+                                  env={'PATH': os.path.join(folder, 'bin')})
+            with open(os.path.join(folder, 'asked'), encoding='utf-8') as file:
+                tally.same(('tools/setup', files, packages), [done.returncode, done.stdout, file.read()], wanted)
 
 
 HEAD = '| 01 says | definition | contract | shown by |\n|---|---|---|---|\n'
@@ -227,7 +281,7 @@ def test_map(tally):
 
 def main():
     tally = Tally()
-    for test in (test_steps, test_shown, test_checks, test_sums, test_cases, test_run, test_map):
+    for test in (test_steps, test_shown, test_checks, test_sums, test_cases, test_run, test_setup, test_map):
         test(tally)
     tally.finish()
 
