@@ -250,6 +250,8 @@ def test_masks(tally, lup):
     for order in 'CF':
         got = lup.run(shaped, masked(range(6), (1, 0, 1, 1, 1, 0), order, (2, 3)))
         tally.same(('a layout', order), got.field(0).tolist(), [[0, None, 2], [3, 4, None]])
+        plain = numpy.arange(6).reshape(2, 3).copy(order=order)
+        tally.same(('a layout', order), lup.run(shaped, plain, plain % 2).cells(0), [None, 1, None, 3, None, 5])
     alone = numpy.ma.array(5, mask=True)
     tally.same('a single cell', lup.run(cases.param(0, 2, -9, 9, ()), alone).field(0).tolist(), None)
     big = numpy.ma.array(numpy.array([7, 2 ** 64 - 1], 'uint64'), mask=[0, 1])
