@@ -60,9 +60,9 @@ build/bench_run: bench/run.c bench/join.c bench/plans.c bench/plain_run.c bench/
 build/join.plan: build/bench_run
 	build/bench_run write $@
 
-# The tests of the Python module need numpy: Debian's, which the system's own Python sees.
+# The tests of the Python module need numpy and distributed: Debian's, which the system's own Python sees.
 test:
-	@tools/setup python3-numpy
+	@tools/setup python3-numpy python3-distributed
 	@tests/run
 
 linked: build/linked
@@ -78,10 +78,12 @@ demo: $(LUP)
 
 # numpy is Debian's python3-numpy, which the system's own Python sees.
 bench: build/bench build/bench_run build/join.plan $(SHARED)
+	@tools/setup python3-numpy
 	@build/bench
 	@echo
 	@build/bench_run
 	@/usr/bin/python3 bench/numpy_join.py build/join.plan $(SHARED)
+	@/usr/bin/python3 bench/python_run.py
 
 clean:
 	rm -rf build target

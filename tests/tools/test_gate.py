@@ -179,7 +179,7 @@ def test_run(tally):
         tally.holds((path, 'is run'), f' python3 {path}' in text or f' /usr/bin/python3 {path}\n' in text)
     tally.holds('by the system\'s own Python', ' /usr/bin/python3 tests/python/test_python.py\n' in text)
     with open(os.path.join(ROOT, 'Makefile'), encoding='utf-8') as file:
-        tally.holds('numpy is asked for', '\ntest:\n\t@tools/setup python3-numpy\n\t@tests/run\n' in file.read())
+        tally.holds('numpy is asked for', '\ntest:\n\t@tools/setup python3-numpy python3-distributed\n\t@tests/run\n' in file.read())
 
 
 # Made-up programs for tools/setup: what is installed stands in a file, and what apt-get was asked for in another.
