@@ -1,11 +1,8 @@
 #!/usr/bin/env python3
 """Plans as text, a line a node, to packed bytes and back.
 
-usage: lupasm.py TEXT -o PLAN      assemble
-       lupasm.py --back PLAN       write the text of a packed plan to standard output
-
 A line is `name = operation ..`; `#` begins a comment. Types are bool, u8, i16, i32. Shapes, offsets and flags are
-written a word an axis, as 3x4, and - where there are no axes.
+written a word an axis, as 3x4, and - where there are no axes; a shape has no 0.
 
     wind = param i16 -500..500 40x12 device 1      its slot is its turn among the PARAMs
     two  = const i16 2
@@ -19,43 +16,75 @@ written a word an axis, as 3x4, and - where there are no axes.
     a    = sum wind 0x1             greatest wind 0x1      flag 1 gathers
     a    = node 6 1=0 9=5 13=1      an operation and its words, for what no other line can say
 
-Nothing here checks a plan: `lup check` does.
-Exit status: 0 done; 2 misuse, text that is no plan, or a file that cannot be read or written.
+All rows but the shape of param and reshape have a word for each axis of the source. Nothing else is checked of a
+plan: `lup check` does. --back unpacks by the library, build/liblupetzarin.so or what LUPETZARIN_LIBRARY names.
 """
+import argparse
+import ctypes
+import errno
 import os
 import re
+import signal
+import stat
 import sys
+from contextlib import contextmanager, suppress
 
 TYPES = ('bool', 'u8', 'i16', 'i32')
 NODE_WORDS, MOST_NODES = 17, 256
 SOURCE, TYPE, NUMBER, DEVICE, LOW, HIGH, ROW_A, ROW_B = 1, 4, 5, 6, 7, 8, 9, 13
 PARAM, REDUCE = 1, 19
+# the bytes of a text that are read, and of a packed plan: bytes past these change no answer of the library
+MOST_TEXT, MOST_BYTES = 1 << 24, 12288
 # "| op | words used |": those that a packed plan carries, in rising order
 A, B = tuple(range(9, 13)), tuple(range(13, 17))
-USED = ((4, 5), (4, 5, 6, 7, 8, *A), *[(1, *A)] * 4, *[(1, *A, *B)] * 2, (1, 4), *[(1, 2)] * 9, (1, 2, 3), (1, 5, *A), (1, 6))
+USED = ((4, 5), (4, 5, 6, 7, 8, *A), *[(1, *A)] * 4, *[(1, *A, *B)] * 2, (1, 4), *[(1, 2)] * 9, (1, 2, 3),
+        (1, 5, *A), (1, 6))
 
-# what follows the operation's name, in order
+# what follows the operation's name, in order; `shape` has axes of its own, other rows those of the first source
 FORMS = {
     'const': (0, 'type number'),
-    'param': (1, 'type limits row device'),
+    'param': (1, 'type limits shape device'),
     'permute': (2, 'first axes'),
-    'flip': (3, 'first row'),
-    'reshape': (4, 'first row'),
-    'expand': (5, 'first row'),
-    'pad': (6, 'first row offsets'),
-    'shrink': (7, 'first row offsets'),
+    'flip': (3, 'first flags'),
+    'reshape': (4, 'first shape'),
+    'expand': (5, 'first extents'),
+    'pad': (6, 'first extents offsets'),
+    'shrink': (7, 'first extents offsets'),
     'cast': (8, 'first type'),
     **{name: (9 + k, 'first second') for k, name in enumerate('add mul max idiv mod cmplt cmpne and or'.split())},
     'where': (18, 'first second third'),
-    'sum': (19, 'first row'),
-    'greatest': (19, 'first row'),
+    'sum': (19, 'first flags'),
+    'greatest': (19, 'first flags'),
     'load': (20, 'first device'),
 }
-SHAPED = ('param', 'reshape', 'expand', 'pad', 'shrink')
+# the library's words for what it refuses of packed bytes
+RULES = {
+    20: 'bytes end before or inside a number',
+    21: 'number not in its shortest form of at most 5 bytes',
+    22: 'bytes left over',
+    23: 'node count not 1..256',
+    24: 'operation not 0..20',
+}
 
 
 class TextError(Exception):
-    """What is wrong with a line."""
+    """What is wrong with a text, and in which line where it is one."""
+
+    def __init__(self, message, line=None):
+        super().__init__(message)
+        self.line = line
+
+
+class FileError(Exception):
+    """Which file cannot be read or written, and why."""
+
+
+class Refused(Exception):
+    """A refusal of the library."""
+
+    def __init__(self, number, place):
+        super().__init__(f'refused {number} at byte {place}: {RULES.get(number, "a rule that is not known here")}')
+        self.number, self.place = number, place
 
 
 # --------------------------------------------------------------- from text
@@ -63,22 +92,35 @@ class TextError(Exception):
 def whole(text):
     if not re.fullmatch(r'-?[0-9]+', text):
         raise TextError(f'{text!r} is no whole number')
+    if len(text.lstrip('-0')) > 11:
+        raise TextError(f'{text} cannot be packed')
     return int(text)
 
 
-def row_of(text, separator='x'):
-    """The words of a row: as many as there are axes, at most four."""
+def row_of(text, rank=None, separator='x'):
+    """The words of a row: as many as there are axes, at most four; a rank that is given has to be met."""
     words = [] if text == '-' else [whole(part) for part in text.split(separator)]
     if len(words) > 4:
         raise TextError(f'{text!r} has more than four axes')
+    if rank is not None and len(words) != rank:
+        raise TextError(f'{text!r} is a row of rank {len(words)}, and the source has rank {rank}')
+    return words
+
+
+def shape_of(text, rank=None):
+    """The extents of a shape. A 0 would end the shape in the packed words, whatever the text says."""
+    words = row_of(text, rank)
+    if 0 in words:
+        raise TextError(f'{text!r} has an extent of 0')
     return words
 
 
 class Line:
     """The words after the operation's name, read one after another."""
 
-    def __init__(self, tokens, names):
-        self.tokens, self.names = list(tokens), names
+    def __init__(self, tokens, names, ranks):
+        self.tokens, self.names, self.ranks = list(tokens), names, ranks
+        self.rank = 0
 
     def take(self, what):
         if not self.tokens:
@@ -112,7 +154,11 @@ class Line:
 
     def part(self, part):
         """Pairs of word and value."""
-        if part in ('first', 'second', 'third'):
+        if part == 'first':
+            source = self.source()
+            self.rank = self.ranks[source]
+            return [(SOURCE, source)]
+        if part in ('second', 'third'):
             return [(SOURCE + ('first', 'second', 'third').index(part), self.source())]
         if part == 'type':
             return [(TYPE, self.dtype())]
@@ -123,8 +169,10 @@ class Line:
         if part == 'device':
             return [(DEVICE, whole(self.after('device', 'a device')))]
         if part == 'offsets':
-            return list(zip(B, row_of(self.after('at', 'a row of offsets'))))
-        return list(zip(A, row_of(self.take('a row'), ',' if part == 'axes' else 'x')))
+            return list(zip(B, row_of(self.after('at', 'a row of offsets'), self.rank)))
+        if part in ('shape', 'extents'):
+            return list(zip(A, shape_of(self.take('a shape'), self.rank if part == 'extents' else None)))
+        return list(zip(A, row_of(self.take('a row'), self.rank, ',' if part == 'axes' else 'x')))
 
     def raw(self):
         """`node`: an operation and pairs of word and value."""
@@ -134,7 +182,7 @@ class Line:
         yield 0, op
         for token in self.tokens:
             word, equals, value = token.partition('=')
-            if not equals or not word.isdigit() or int(word) not in USED[op]:
+            if not equals or word not in map(str, USED[op]):
                 raise TextError(f'{token!r}: operation {op} has the words {", ".join(map(str, USED[op]))}')
             yield int(word), whole(value)
         self.tokens = []
@@ -148,7 +196,9 @@ def node_words(line, name, params):
     elif name in FORMS:
         op, parts = FORMS[name]
         fixed = {'param': [(NUMBER, params)], 'greatest': [(NUMBER, 1)]}
-        pairs = [(0, op), *fixed.get(name, [])] + [pair for part in parts.split() for pair in line.part(part)]
+        pairs = [(0, op), *fixed.get(name, [])]
+        for part in parts.split():
+            pairs += line.part(part)
     else:
         raise TextError(f'{name!r} is no operation')
     for word, value in pairs:
@@ -162,7 +212,7 @@ def node_words(line, name, params):
 
 def table_of(text):
     """The table of a plan's text."""
-    table, names, params = [], {}, 0
+    table, names, ranks, params = [], {}, [], 0
     for number, content in enumerate(text.split('\n'), 1):
         content = content.partition('#')[0].strip()
         if not content:
@@ -175,13 +225,25 @@ def table_of(text):
                 raise TextError(f'{match[1]!r} is the name of another node')
             if len(names) == MOST_NODES:
                 raise TextError(f'a plan has at most {MOST_NODES} nodes')
-            words = node_words(Line(match[3].split(), names), match[2], params)
+            words = node_words(Line(match[3].split(), names, ranks), match[2], params)
         except TextError as error:
-            raise TextError(f'line {number}: {error}') from None
+            raise TextError(str(error), number) from None
         names[match[1]] = len(names)
+        ranks.append(rank_of(words, ranks))
         params += words[0] == PARAM
         table += words
     return table
+
+
+def text_of(data):
+    """The text that stands in these bytes; a line may end as on other systems."""
+    if len(data) > MOST_TEXT:
+        raise TextError(f'a text has at most {MOST_TEXT} bytes')
+    data = data.replace(b'\r\n', b'\n').replace(b'\r', b'\n')
+    try:
+        return data.decode('utf-8')
+    except UnicodeDecodeError as error:
+        raise TextError(f'byte {data[error.start]:02X} is no UTF-8', data.count(b'\n', 0, error.start) + 1) from None
 
 
 def number_bytes(number):
@@ -207,43 +269,24 @@ def assemble(text):
 
 # ------------------------------------------------------------ back to text
 
-class Reader:
-    """Numbers in packed bytes."""
+class Answer(ctypes.Structure):
+    """lup_answer of include/lupetzarin.h"""
+    _fields_ = [(name, ctypes.c_uint64) for name in ('number', 'place', 'count')]
 
-    def __init__(self, data):
-        self.data, self.at = data, 0
 
-    def number(self):
-        value, shift = 0, 0
-        while True:
-            if self.at == len(self.data):
-                raise TextError(f'the bytes end at {self.at}, within a plan')
-            byte = self.data[self.at]
-            self.at += 1
-            value |= (byte & 127) << shift
-            shift += 7
-            if byte < 128:
-                return value
-            if shift == 35:
-                raise TextError(f'a number before byte {self.at} has more than 5 bytes')
-
-    def word(self):
-        written = self.number()
-        return -(written + 1) // 2 if written % 2 else written // 2
-
-    def table(self):
-        table = []
-        for _ in range(self.number()):
-            op = self.number()
-            if op >= len(USED):
-                raise TextError(f'operation {op} before byte {self.at}')
-            words = [op] + [0] * (NODE_WORDS - 1)
-            for word in USED[op]:
-                words[word] = self.word()
-            table += words
-        if self.at != len(self.data):
-            raise TextError(f'bytes are left over from byte {self.at} on')
-        return table
+def unpacked(data):
+    """The table of packed bytes, by the library."""
+    beside = os.path.join(os.path.dirname(os.path.dirname(os.path.abspath(__file__))), 'build', 'liblupetzarin.so')
+    try:
+        call = ctypes.CDLL(os.environ.get('LUPETZARIN_LIBRARY', beside)).lup_unpack
+    except (OSError, AttributeError) as error:
+        raise FileError(f'the library cannot be loaded: {error}') from None
+    call.argtypes, call.restype = [ctypes.c_void_p, ctypes.c_size_t] * 2, Answer
+    table = (ctypes.c_int64 * (NODE_WORDS * MOST_NODES))()
+    answer = call(data, len(data), table, len(table))
+    if answer.number:
+        raise Refused(answer.number, answer.place)
+    return table[:NODE_WORDS * answer.count]
 
 
 def joined(words, separator='x'):
@@ -262,23 +305,24 @@ def readable(name, words, ranks):
     """The node's line by the form of that name."""
     rank = rank_of(words, ranks)
     source = ranks[words[1]] if SOURCE in USED[words[0]] and 0 <= words[1] < len(ranks) else 0
+    row = joined(words[9:9 + rank])
     texts = {'first': f'n{words[1]}', 'second': f'n{words[2]}', 'third': f'n{words[3]}', 'number': str(words[NUMBER]),
              'type': TYPES[words[TYPE]] if 0 <= words[TYPE] < 4 else '?', 'limits': f'{words[LOW]}..{words[HIGH]}',
-             'row': joined(words[9:9 + rank]), 'axes': joined(words[9:9 + rank], ','), 'offsets': f'at {joined(words[13:13 + source])}',
-             'device': f'device {words[DEVICE]}'}
+             'shape': row, 'extents': row, 'flags': row, 'axes': joined(words[9:9 + rank], ','),
+             'offsets': f'at {joined(words[13:13 + source])}', 'device': f'device {words[DEVICE]}'}
     return ' '.join([name, *(texts[part] for part in FORMS[name][1].split())])
 
 
 def back(data):
     """The text of a packed plan: the readable form of a node where it says the same words, else `node`."""
-    table = Reader(data).table()
+    table = unpacked(data)
     lines, ranks, names, params = [], [], {}, 0
     for first in range(0, len(table), NODE_WORDS):
         words = table[first:first + NODE_WORDS]
         line = ' '.join(['node', str(words[0]), *(f'{w}={words[w]}' for w in USED[words[0]] if words[w])])
         for name, (op, _) in FORMS.items():
             text = readable(name, words, ranks) if op == words[0] else ''
-            if text and says(text, names, params, words):
+            if text and says(text, names, ranks, params, words):
                 line = text
         number = len(ranks)
         lines.append(f'n{number} = {line}\n')
@@ -288,50 +332,197 @@ def back(data):
     return ''.join(lines)
 
 
-def says(text, names, params, words):
+def says(text, names, ranks, params, words):
     name, *tokens = text.split()
     try:
-        return node_words(Line(tokens, names), name, params) == words
+        return node_words(Line(tokens, names, ranks), name, params) == words
     except TextError:
         return False
 
 
+# ------------------------------------------------------------------- files
+
+HELD = signal.SIGHUP, signal.SIGINT, signal.SIGTERM
+MOST_TRIES = 100
+
+
+def told(name, way):
+    return f'standard {way}' if name == '-' else name
+
+
+@contextmanager
+def named(name, what):
+    """What the system says, with the file that it says it of."""
+    try:
+        yield
+    except OSError as error:
+        raise FileError(f'{name}: it cannot be {what}: {error.strerror}') from None
+
+
+def read_all(descriptor, most):
+    """What is there up to its end, at most so many bytes: a pipe gives it in parts."""
+    data = bytearray()
+    while len(data) < most:
+        part = os.read(descriptor, min(most - len(data), 1 << 16))
+        if not part:
+            break
+        data += part
+    return bytes(data)
+
+
+def write_all(descriptor, data):
+    while data:
+        data = data[os.write(descriptor, data):]
+
+
+def read_source(name, most):
+    """At most so many bytes of a file, or of standard input where the name is `-`; and which file it was."""
+    descriptor = 0 if name == '-' else os.open(name, os.O_RDONLY)
+    try:
+        return read_all(descriptor, most), os.fstat(descriptor)
+    finally:
+        if name != '-':
+            os.close(descriptor)
+
+
+def expect_apart(name, source):
+    """The name to write, `-` standard output, is not that of the file that is read, by no link either."""
+    there = None
+    with suppress(FileNotFoundError):
+        there = os.fstat(1) if name == '-' else os.stat(name)
+    if there is None or not os.path.samestat(there, source):
+        return
+    # a terminal may well be read and written
+    if name != '-' or stat.S_ISREG(there.st_mode):
+        raise FileError(f'{told(name, "output")}: it is to be read and to be written; nothing was done')
+
+
+def mode_there(name):
+    """The mode of the plain file that has this name, None where nothing has it."""
+    try:
+        there = os.lstat(name)
+    except FileNotFoundError:
+        return None
+    if not stat.S_ISREG(there.st_mode):
+        raise FileError(f'{name}: what has this name is no plain file; it stays as it is')
+    return stat.S_IMODE(there.st_mode)
+
+
+def open_temporary(folder, mode):
+    """A file of a name that none has yet: the process and a number."""
+    for k in range(MOST_TRIES):
+        name = os.path.join(folder, f'.lupasm-{os.getpid()}-{k}.tmp')
+        with suppress(FileExistsError):
+            return name, os.open(name, os.O_WRONLY | os.O_CREAT | os.O_EXCL, mode)
+    raise FileExistsError(errno.EEXIST, os.strerror(errno.EEXIST))
+
+
+def write_temporary(descriptor, data, mode):
+    """All of it, on the disk."""
+    try:
+        write_all(descriptor, data)
+        if mode is not None:
+            os.fchmod(descriptor, mode)
+        os.fsync(descriptor)
+    finally:
+        os.close(descriptor)
+
+
+def write_whole(name, data, mode):
+    """All of it under its name, or nothing: a temporary file beside it gets the name, with this mode, or with that of
+    any new file. A signal that would leave the temporary file waits until it is gone."""
+    signals = signal.pthread_sigmask(signal.SIG_BLOCK, HELD)
+    try:
+        temporary, descriptor = open_temporary(os.path.dirname(name), 0o666 if mode is None else mode & 0o777)
+        try:
+            write_temporary(descriptor, data, mode)
+            os.replace(temporary, name)
+        except BaseException:
+            with suppress(OSError):
+                os.unlink(temporary)
+            raise
+    finally:
+        signal.pthread_sigmask(signal.SIG_SETMASK, signals)
+
+
 # ----------------------------------------------------------------- program
 
-def write_whole(path, data):
-    """All of it under its name, or nothing."""
-    beside = f'{path}.{os.getpid()}.new'
-    try:
-        with open(beside, 'xb') as file:
-            file.write(data)
-        os.replace(beside, path)
-    except OSError:
-        if os.path.exists(beside):
-            os.remove(beside)
-        raise
+class Once(argparse.Action):
+    """An option that is given once."""
+
+    def __call__(self, parser, asked, value, option_string=None):
+        if getattr(asked, self.dest) is not None:
+            parser.error(f'{option_string} is given twice')
+        setattr(asked, self.dest, value)
+
+
+class Parser(argparse.ArgumentParser):
+    def print_help(self, file=None):
+        write_all(1, self.format_help().encode())
+
+
+def asked_of(arguments):
+    parser = Parser(
+        prog='lupasm.py', usage='lupasm.py TEXT -o PLAN [--check]\n       lupasm.py --back PLAN [-o TEXT] [--check]',
+        description=__doc__, formatter_class=argparse.RawDescriptionHelpFormatter, allow_abbrev=False,
+        epilog='A file is written whole or not at all, never over the one that is read or over what is no plain file.\n'
+               'Exit status: 0 done; 1 --back: refused by the library, with number, place and rule;\n'
+               '2 misuse, text that is no plan, or a file that cannot be read or written.')
+    parser.add_argument('source', metavar='TEXT, PLAN', help='the file to read; - is standard input')
+    parser.add_argument('-o', dest='output', metavar='FILE', action=Once,
+                        help='the file to write; - is standard output, where --back writes without -o')
+    parser.add_argument('--back', action='store_true', help='the text of a packed plan')
+    parser.add_argument('--check', action='store_true', help='does all but the writing; -o may be left out')
+    asked = parser.parse_args(arguments)
+    if asked.output is None and not asked.check:
+        if not asked.back:
+            parser.error('-o PLAN is not given')
+        asked.output = '-'
+    if '' in (asked.source, asked.output):
+        parser.error('the name of a file is empty')
+    return asked
+
+
+def convert(asked):
+    """Reads, makes the bytes or the text, and writes."""
+    with named(told(asked.source, 'input'), 'read'):
+        data, source = read_source(asked.source, MOST_BYTES if asked.back else MOST_TEXT + 1)
+    result = back(data).encode() if asked.back else assemble(text_of(data))
+    if asked.output is None:
+        return
+    with named(told(asked.output, 'output'), 'written'):
+        expect_apart(asked.output, source)
+        mode = None if asked.output == '-' else mode_there(asked.output)
+        if asked.check:
+            return
+        if asked.output == '-':
+            write_all(1, result)
+        else:
+            write_whole(asked.output, result, mode)
+
+
+def complain(message):
+    if sys.stderr:
+        print(f'lupasm.py: {message}', file=sys.stderr)
 
 
 def main(arguments):
-    if arguments in (['--help'], ['-h']):
-        print(__doc__)
-        return 0
-    backwards = len(arguments) == 2 and arguments[0] == '--back'
-    if not backwards and not (len(arguments) == 3 and arguments[1] == '-o'):
-        print('lupasm.py: TEXT -o PLAN, or --back PLAN; see --help', file=sys.stderr)
-        return 2
-    source = arguments[1] if backwards else arguments[0]
     try:
-        if backwards:
-            with open(source, 'rb') as file:
-                sys.stdout.write(back(file.read(1 << 20)))
-        else:
-            with open(source, encoding='utf-8') as file:
-                write_whole(arguments[2], assemble(file.read()))
-    except (OSError, UnicodeDecodeError, TextError) as error:
-        print(f'lupasm.py: {source}: {error}', file=sys.stderr)
+        with named('standard output', 'written'):
+            asked = asked_of(arguments)
+        convert(asked)
+    except FileError as error:
+        complain(error)
         return 2
+    except (TextError, Refused) as error:
+        line = f':{error.line}' if isinstance(error, TextError) and error.line else ''
+        complain(f'{told(asked.source, "input")}{line}: {error}')
+        return 1 if isinstance(error, Refused) else 2
     return 0
 
 
 if __name__ == '__main__':
+    # an interrupt ends it as it ends lup, without Python's account of where it was
+    if signal.getsignal(signal.SIGINT) is signal.default_int_handler:
+        signal.signal(signal.SIGINT, signal.SIG_DFL)
     sys.exit(main(sys.argv[1:]))

@@ -1,18 +1,25 @@
 #!/usr/bin/env python3
-"""The assembler of plans: text to bytes and back, against the tables and the packing of the independent model.
+"""The assembler of plans: text to bytes and back, against the tables and the packing of the independent model; what
+it reads, what it writes and what it leaves alone.
 
 usage: test_assembler.py [COUNT] [SEED]     last line: 'N passed, 0 failed'
 """
 
+import errno
 import os
+import resource
+import signal
+import socket
+import stat
 import subprocess
 import sys
 import tempfile
+import time
 from random import Random
 
 sys.dont_write_bytecode = True
 ROOT = os.path.dirname(os.path.dirname(os.path.dirname(os.path.abspath(__file__))))
-sys.path[:0] = [os.path.join(ROOT, part) for part in ('host', 'tests/model', 'tests/boundary', 'tests/tools', 'demo')]
+sys.path[:0] = [os.path.join(ROOT, part) for part in ('host', 'tests/host', 'tests/model', 'tests/boundary', 'tests/tools', 'demo')]
 
 import cases  # noqa: E402
 import lupasm  # noqa: E402
@@ -21,6 +28,8 @@ import model  # noqa: E402
 import run_cases  # noqa: E402
 from cases import apply, const, move, node, param, reduce_node  # noqa: E402
 from counting import Cases  # noqa: E402
+from program import Program  # noqa: E402
+from wording import RULES  # noqa: E402
 
 PROGRAM = os.path.join(ROOT, 'host', 'lupasm.py')
 WIND = param(0, 2, -500, 500, (40, 12))
@@ -34,15 +43,37 @@ LINES = (
     ('where w w w', apply(model.WHERE, 0, 0, 0)), ('sum w 0x1', reduce_node(0, 0, (0, 1))), ('greatest w 1x1', reduce_node(0, 1, (1, 1))),
     ('load w device 3', node(model.LOAD, {1: 0, 6: 3})), ('node 6 1=0 9=5 13=-1', node(6, {1: 0, 9: 5, 13: -1})), ('node 20', node(20)),
 )
+W, V = 'w = param i16 0..5 3x4 device 1\n', 'v = const i16 5\n'
+# a row that is not of its source's rank: shorter, then longer
+RANKS = [
+    (row, f"line 2: '{part}' is a row of rank {len(part.replace(',', 'x').split('x')) if part != '-' else 0}, and the source has rank 2")
+    for row, part in (
+        ('permute w 0', '0'), ('permute w -', '-'), ('flip w 1', '1'), ('flip w -', '-'), ('sum w 1', '1'), ('greatest w 1', '1'),
+        ('expand w 3', '3'), ('pad w 5 at 1x1', '5'), ('pad w 5x5 at 1', '1'), ('pad w 5x5 at -', '-'), ('shrink w 2 at 0x0', '2'),
+        ('shrink w 2x2 at 0', '0'), ('permute w 1,0,2', '1,0,2'), ('flip w 0x1x0', '0x1x0'), ('sum w 0x1x0', '0x1x0'),
+        ('greatest w 0x1x0', '0x1x0'), ('expand w 3x4x1', '3x4x1'), ('pad w 5x5x1 at 0x0', '5x5x1'), ('pad w 5x5 at 0x0x0', '0x0x0'),
+        ('shrink w 2x2x1 at 0x0', '2x2x1'), ('shrink w 2x2 at 0x0x0', '0x0x0'))]
+# a line after W and V, and its rank
+RANKED = (
+    ('const i16 1', 0), ('param u8 0..1 1x2x3 device 1', 3), ('param u8 0..1 - device 1', 0), ('permute w 1,0', 2), ('flip w 0x1', 2),
+    ('reshape w 12', 1), ('reshape w 2x2x3x1', 4), ('expand w 3x4', 2), ('pad w 5x5 at 1x1', 2), ('shrink w 2x2 at 0x0', 2), ('cast w i32', 2),
+    ('add v w', 2), ('add w v', 2), ('add v v', 0), ('where v v w', 2), ('where w v v', 2), ('sum w 1x1', 2), ('greatest w 0x0', 2),
+    ('load w device 3', 2), ('load v device 3', 0), ('node 20 1=0', 2), ('node 4 1=0 9=12', 1))
 # a text, and what the message says of it
 WRONG = (
+    *((W + 'v = ' + row, message) for row, message in RANKS),
+    ('w = param i16 0..5 0 device 1', "'0' has an extent of 0"), ('w = param i16 0..5 3x0 device 1', "'3x0' has an extent of 0"),
+    (W + 'v = reshape w 12x0', "line 2: '12x0' has an extent of 0"), (W + 'v = pad w 0x5 at 0x0', "'0x5' has an extent of 0"),
+    (W + 'v = expand w 3x0', "'3x0' has an extent of 0"), (W + 'v = shrink w 3x0 at 0x0', "'3x0' has an extent of 0"),
+    ('w = const i16 ' + '9' * 5000, '999 cannot be packed'), ('w = const i32 -17179869185', '-17179869185 cannot be packed'),
+    ('w = node 0 \u00b2=3', 'operation 0 has the words 4, 5'), ('w = node 0 \u0664=3', 'operation 0 has the words 4, 5'),
     ('', 'there is no node'), ('# nothing\n\n', 'there is no node'), ('w', 'line 1: a line is'), ('\nw = const', 'line 2: a type is missing'),
     ('w = const i16', 'a number is missing'), ('w = const i17 5', "'i17' is no type"), ('w = const i16 five', "'five' is no whole number"),
     ('w = const i16 5 6', "'6' is left over"), ('w = cinst i16 5', "'cinst' is no operation"), ('w = load v device 1', "no node before this one is called 'v'"),
     ('w = load w device 1', "no node before this one is called 'w'"), ('w = const u8 1\nw = const u8 2', "line 2: 'w' is the name of another node"),
     ('w = param i16 5 3x4 device 1', "'5' are no limits"), ('w = param i16 0..5 3x4', "'device' is missing"), ('w = param i16 0..5 3x4 on 1', "'device' is wanted, not 'on'"),
     ('w = param i16 0..5 1x1x1x1x1 device 1', 'more than four axes'), ('w = param i16 0..5 3xx4 device 1', "'' is no whole number"),
-    ('w = const u8 1\nv = pad w 3 to 1', "'at' is wanted, not 'to'"), ('w = node 21', 'operation 21 cannot be packed'), ('w = node 0 1=2', 'operation 0 has the words 4, 5'),
+    ('w = const u8 1\nv = pad w - to -', "'at' is wanted, not 'to'"), ('w = node 21', 'operation 21 cannot be packed'), ('w = node 0 1=2', 'operation 0 has the words 4, 5'),
     ('w = node 0 4', 'operation 0 has the words 4, 5'), (f'w = const i32 {2 ** 34}', 'cannot be packed'), ('w = const u8 1\n' + ''.join(f'v{k} = const u8 1\n' for k in range(256)), 'at most 256 nodes'),
     ('w w = const u8 1', 'a line is'), ('w = const u8 1 # five\nv = const u8 x', "line 2: 'x' is no whole number"),
 )
@@ -62,7 +93,34 @@ def test_lines(tally):
         try:
             tally.same(text[:60], lupasm.assemble(text), message)
         except lupasm.TextError as error:
-            tally.same(text[:60], message in str(error), True)
+            shown = f'line {error.line}: {error}' if error.line else str(error)
+            tally.holds(text[:60], message in shown, shown)
+
+
+def accepts(text):
+    try:
+        return bool(lupasm.assemble(text))
+    except lupasm.TextError:
+        return False
+
+
+def test_ranks(tally):
+    """A row of the node's own rank, and of no other."""
+    for line, rank in RANKED:
+        text = f'{W}{V}a = {line}\nb = flip a '
+        found = [k for k in range(5) if accepts(text + ('x'.join('1' * k) or '-'))]
+        tally.same(('the rank of', line), found, [rank])
+
+
+def without_last(line):
+    """The line with each of its rows that a source measures, one after another, without its last word."""
+    tokens = line.split()
+    if tokens[2] in ('permute', 'flip', 'sum', 'greatest', 'expand', 'pad', 'shrink'):
+        for at in (4, 6):
+            if at < len(tokens) and tokens[at] != '-':
+                separator = ',' if tokens[2] == 'permute' else 'x'
+                shorter = separator.join(tokens[at].split(separator)[:-1]) or '-'
+                yield ' '.join([*tokens[:at], shorter, *tokens[at + 1:]])
 
 
 def test_plans(tally, rng, count):
@@ -73,6 +131,10 @@ def test_plans(tally, rng, count):
         with tally.case((run.note, text)):
             tally.same('there and back', lupasm.assemble(text), data)
             tally.same('in words', ' = node ' in text, False)
+            lines = text.split('\n')
+            for number, line in enumerate(lines[:-1]):
+                for shorter in without_last(line):
+                    tally.same(shorter, accepts('\n'.join([*lines[:number], shorter])), False)
     ends = [n for k in (0, 6, 7, 13, 14, 33, 34) for n in (2 ** k, -2 ** k, 2 ** k - 1) if -2 ** 34 <= n < 2 ** 34]
     for _ in range(count):
         table = []
@@ -82,29 +144,478 @@ def test_plans(tally, rng, count):
         tally.same('any words', lupasm.table_of(lupasm.back(cases.pack(table))), table)
 
 
-def told(*arguments):
-    done = subprocess.run([sys.executable, PROGRAM, *arguments], capture_output=True, text=True, check=False)
-    return done.returncode, done.stdout, done.stderr
+# ------------------------------------------------------------- the program
+
+FIVE = bytes.fromhex('0100040A')
+TEXT, BACK = b'five = const i16 5\n', 'n0 = const i16 5\n'
+OLD = b'what was there'
 
 
-def test_program(tally):
-    with tempfile.TemporaryDirectory() as here:
-        text, plan = os.path.join(here, 'five.lup'), os.path.join(here, 'five.plan')
-        with open(text, 'w', encoding='utf-8') as file:
-            file.write('five = const i16 5\n')
-        tally.same('assemble', told(text, '-o', plan), (0, '', ''))
-        with open(plan, 'rb') as file:
-            tally.same('01 00 04 0A', file.read(), bytes.fromhex('0100040A'))
-        tally.same('back', told('--back', plan), (0, 'n0 = const i16 5\n', ''))
-        with open(text, 'w', encoding='utf-8') as file:
-            file.write('five = const i16 5\nsix = const i16\n')
-        tally.same('a wrong line', told(text, '-o', plan), (2, '', f'lupasm.py: {text}: line 2: a number is missing\n'))
-        with open(plan, 'rb') as file:
-            tally.same('the plan stays as it was', file.read(), bytes.fromhex('0100040A'))
-        tally.same('nothing else is left', sorted(os.listdir(here)), ['five.lup', 'five.plan'])
-        for arguments in ((), (text,), ('--back',), (text, '-o'), (text, '-x', plan), (os.path.join(here, 'none.lup'), '-o', plan), ('--back', here)):
-            tally.same(arguments, told(*arguments)[0], 2)
-        tally.same('--help', told('--help')[0], 0)
+class Assembler(Program):
+    """Runs the assembler in a folder of its own."""
+
+    def run(self, *words, before=(), **more):
+        """Exit status, standard output with a character a byte, standard error."""
+        pipes = {'stdout': subprocess.PIPE, 'stderr': subprocess.PIPE, **more}
+        if 'input' not in pipes:
+            pipes.setdefault('stdin', subprocess.DEVNULL)
+        done = subprocess.run([sys.executable, '-B', *before, self.path, *words], cwd=self.folder, timeout=60, check=False, **pipes)
+        return done.returncode, (done.stdout or b'').decode('latin-1'), (done.stderr or b'').decode(errors='replace')
+
+    def put_all(self):
+        self.put('five.lup', TEXT)
+        self.put('five.plan', FIVE)
+        self.put('old.plan', OLD)
+
+    def seen(self):
+        """Everything in the folder: kind and mode, which file it is, what it holds."""
+        found = {}
+        for name in os.listdir(self.folder):
+            there = os.lstat(self.at(name))
+            data = self.get(name) if stat.S_ISREG(there.st_mode) else None
+            found[name] = there.st_mode, there.st_ino, there.st_rdev, there.st_nlink, data
+        return found
+
+
+def failed(name, message, status=2):
+    """What the program answers where it fails."""
+    return status, '', f'lupasm.py: {name}: {message}\n'
+
+
+def test_program(tally, asm):
+    asm.put('five.lup', TEXT)
+    tally.same('assemble', asm.run('five.lup', '-o', 'five.plan'), (0, '', ''))
+    tally.same('01 00 04 0A', asm.get('five.plan'), FIVE)
+    tally.same('back', asm.run('--back', 'five.plan'), (0, BACK, ''))
+    tally.same('back to a file', asm.run('--back', 'five.plan', '-o', 'back.lup'), (0, '', ''))
+    tally.same('its text', asm.get('back.lup'), BACK.encode())
+    asm.put('five.lup', b'five = const i16 5\nsix = const i16\n')
+    tally.same('a wrong line', asm.run('five.lup', '-o', 'five.plan'), failed('five.lup:2', 'a number is missing'))
+    tally.same('the plan stays as it was', asm.get('five.plan'), FIVE)
+    tally.same('nothing else is left', sorted(os.listdir(asm.folder)), ['back.lup', 'five.lup', 'five.plan'])
+
+
+MISUSE = (
+    (), ('five.lup',), ('--back',), ('--check',), ('five.lup', '-o'), ('five.lup', '-x', 'five.plan'), ('five.lup', 'five.lup', '-o', 'five.plan'),
+    ('five.lup', '-o', 'five.plan', '-o', 'five.plan'), ('five.lup', '-o', ''), ('', '-o', 'five.plan'), ('--back', ''), ('--bac', 'five.plan'),
+    ('--chec', 'five.lup'), ('five.lup', '-o', 'five.plan', '--force'))
+
+
+def test_messages(tally, asm):
+    """Misuse shows the usage; any other message is a line, with the file that it is about."""
+    asm.put_all()
+    before = asm.seen()
+    for call in MISUSE:
+        status, text, errors = asm.run(*call)
+        tally.same(call, (status, text, errors[:21], 'lupasm.py: error: ' in errors, asm.seen() == before), (2, '', 'usage: lupasm.py TEXT', True, True))
+    none, folder = 'it cannot be read: No such file or directory', 'it cannot be read: Is a directory'
+    for call, wanted in (
+            (('none.lup', '-o', 'new.plan'), failed('none.lup', none)), (('--back', 'none.plan'), failed('none.plan', none)),
+            (('.', '-o', 'new.plan'), failed('.', folder)), (('--back', '.'), failed('.', folder)),
+            (('five.lup', '-o', 'none/new.plan'), failed('none/new.plan', 'it cannot be written: No such file or directory')),
+            (('five.lup', '-o', 'old.plan/new.plan'), failed('old.plan/new.plan', 'it cannot be written: Not a directory')),
+            (('--back', 'five.plan', '-o', 'none/new.lup'), failed('none/new.lup', 'it cannot be written: No such file or directory')),
+            (('--back', 'five.lup'), failed('five.lup', f'refused 24 at byte 1: {RULES[24]}', 1))):
+        tally.same(call, (asm.run(*call), asm.seen() == before), (wanted, True))
+    for data, wanted in (
+            (b'', failed('wrong.lup', 'there is no node')), (TEXT + b'\n# \xc3\xa9\nsix = \xff\n', failed('wrong.lup:4', 'byte FF is no UTF-8')),
+            (TEXT + b'# \xc3', failed('wrong.lup:2', 'byte C3 is no UTF-8')), (TEXT + b'\rsix\r\n', failed('wrong.lup:3', 'a line is `name = operation ..`')),
+            (bytes(1 << 20), failed('wrong.lup:1', 'a line is `name = operation ..`'))):
+        asm.put('wrong.lup', data)
+        tally.same(('wrong.lup', data[:30]), (asm.run('wrong.lup', '-o', 'new.plan'), os.path.exists(asm.at('new.plan'))), (wanted, False))
+
+
+def test_standard(tally, asm):
+    """`-` is standard input and standard output; a file of that name is ./-"""
+    asm.put_all()
+    packed = FIVE.decode('latin-1')
+    tally.same('to standard output', asm.run('five.lup', '-o', '-'), (0, packed, ''))
+    tally.same('from standard input', asm.run('-', '-o', '-', input=TEXT), (0, packed, ''))
+    tally.same('from standard input to a file', (asm.run('-', '-o', 'new.plan', input=TEXT), asm.get('new.plan')), ((0, '', ''), FIVE))
+    tally.same('back from standard input', asm.run('--back', '-', input=FIVE), (0, BACK, ''))
+    tally.same('back to standard output', asm.run('--back', '-', '-o', '-', input=FIVE), (0, BACK, ''))
+    tally.same('a wrong line', asm.run('-', '-o', 'new.plan', input=TEXT + b'six\n'), failed('standard input:2', 'a line is `name = operation ..`'))
+    tally.same('a refusal', asm.run('--back', '-', input=b'\0'), failed('standard input', f'refused 23 at byte 0: {RULES[23]}', 1))
+    asm.put('-', TEXT)
+    tally.same('a file of that name', asm.run('./-', '-o', '-'), (0, packed, ''))
+    tally.same('after --', asm.run('-o', '-', '--', '-', input=TEXT), (0, packed, ''))
+    with open('/dev/full', 'wb') as full:
+        for call in (('five.lup', '-o', '-'), ('--back', 'five.plan'), ('--help',)):
+            tally.same((call, 'full'), asm.run(*call, stdout=full), failed('standard output', 'it cannot be written: No space left on device'))
+    closed = {'stdin': subprocess.DEVNULL, 'before': ('-c', 'import os, sys; os.close(int(sys.argv[1])); os.execv(sys.executable, [sys.executable, *sys.argv[2:]])')}
+    message = 'it cannot be %s: Bad file descriptor'
+    for number, call, wanted in ((0, ('-', '-o', 'x'), failed('standard input', message % 'read')), (1, ('five.lup', '-o', '-'), failed('standard output', message % 'written')),
+                                 (1, ('five.lup', '-o', 'new.plan'), (0, '', '')), (2, ('five.lup', '-o', '-'), (0, packed, '')), (2, ('none.lup', '-o', '-'), (2, '', ''))):
+        tally.same((call, number, 'is closed'), asm.run(*call, **{**closed, 'before': (*closed['before'], str(number))}), wanted)
+    with open(asm.at('five.lup'), 'ab') as file:
+        tally.same('standard output is the text', asm.run('five.lup', '-o', '-', stdout=file), failed('standard output', 'it is to be read and to be written; nothing was done'))
+    tally.same('it stays', asm.get('five.lup'), TEXT)
+
+
+def test_check(tally, asm):
+    """--check answers as without it, and writes nothing."""
+    asm.put_all()
+    asm.put('wrong.lup', TEXT + b'six\n')
+    asm.put('wrong.plan', b'\0')
+    os.mkfifo(asm.at('pipe'))
+    before = asm.seen()
+    apart, plain = 'it is to be read and to be written; nothing was done', 'what has this name is no plain file; it stays as it is'
+    wrong, refused = failed('wrong.lup:2', 'a line is `name = operation ..`'), failed('wrong.plan', f'refused 23 at byte 0: {RULES[23]}', 1)
+    for call, wanted in (
+            (('five.lup',), (0, '', '')), (('five.lup', '-o', 'new.plan'), (0, '', '')), (('five.lup', '-o', 'old.plan'), (0, '', '')),
+            (('five.lup', '-o', '-'), (0, '', '')), (('-',), (0, '', '')), (('wrong.lup',), wrong), (('wrong.lup', '-o', 'old.plan'), wrong),
+            (('five.lup', '-o', 'five.lup'), failed('five.lup', apart)), (('five.lup', '-o', 'pipe'), failed('pipe', plain)),
+            (('--back', 'five.plan'), (0, '', '')), (('--back', 'five.plan', '-o', 'old.plan'), (0, '', '')), (('--back', 'wrong.plan'), refused),
+            (('--back', 'five.plan', '-o', 'five.plan'), failed('five.plan', apart)), (('none.lup',), failed('none.lup', 'it cannot be read: No such file or directory'))):
+        tally.same(('--check', *call), (asm.run('--check', *call, input=TEXT), asm.seen() == before), (wanted, True))
+    tally.same('--check behind', (asm.run('five.lup', '-o', 'old.plan', '--check'), asm.seen() == before), ((0, '', ''), True))
+
+
+# ---------------------------------------------------------- back: what the library refuses
+
+# number, place, bytes: all that the library can refuse of bytes
+REFUSED = [(number, place, bytes.fromhex(data)) for number, place, data in (
+    (20, 0, ''), (20, 1, '01'), (20, 0, '80'), (20, 3, '010004'), (20, 3, '01000480'), (20, 3, '010004FFFFFFFF'),
+    (21, 0, '8100040A'), (21, 0, '8000'), (21, 1, '0180000 40A'.replace(' ', '')), (21, 2, '010084000A'), (21, 3, '0100048A00'), (21, 3, '0100048000'),
+    (21, 0, 'FFFFFFFFFF'), (21, 3, '010004FFFFFFFFFF'), (21, 3, '010004FFFFFFFFFF01'), (22, 4, '0100040A00'), (22, 4, '0100040A0100040A'),
+    (23, 0, '00'), (23, 0, '000004'), (23, 0, '8102'), (23, 0, 'FFFFFFFF7F'), (24, 1, '0115'), (24, 1, '017F'), (24, 1, '01FF01'))]
+
+
+def answer_of(data):
+    """The model's: number and place of a refusal, or 0 and the table."""
+    table = [0] * (17 * 256)
+    number, place, count = model.unpack(data, table)
+    return (number, place) if number else (0, table[:17 * count])
+
+
+def back_of(data):
+    """The same of the assembler."""
+    try:
+        return 0, lupasm.table_of(lupasm.back(data))
+    except lupasm.Refused as error:
+        return error.number, error.place
+
+
+def test_back(tally, asm):
+    asm.put('old.lup', OLD)
+    for number, place, data in REFUSED:
+        with tally.case((number, place, data.hex())):
+            tally.same('the model', answer_of(data), (number, place))
+            tally.same('the assembler', back_of(data), (number, place))
+            asm.put('bad.plan', data)
+            message = failed('bad.plan', f'refused {number} at byte {place}: {RULES[number]}', 1)
+            tally.same('the program', asm.run('--back', 'bad.plan'), message)
+    tally.same('to a file', (asm.run('--back', 'bad.plan', '-o', 'old.lup'), asm.get('old.lup')), (message, OLD))
+    tally.same('every refusal', {number for number, _, _ in REFUSED}, {20, 21, 22, 23, 24})
+
+
+def test_damage(tally, rng, count):
+    """Packed plans with a byte or more changed, put in, taken out or cut off: unpacked or refused as the model says."""
+    met = set()
+    plans = [cases.pack(run.table) for run in run_cases.random_runs(rng, 40)] + [FIVE]
+    for _ in range(count):
+        data = bytearray(rng.choice(plans))
+        for _ in range(rng.randint(1, 2)):
+            at = rng.randrange(len(data) + 1)
+            part = rng.choice((b'', b'\0', b'\x80', b'\xff', b'\x80\0', rng.randbytes(1)))
+            data[at:rng.choice((at, at + 1, at + 1, len(data)))] = part
+        wanted = answer_of(bytes(data))
+        met.add(wanted[0])
+        tally.same(data.hex(), back_of(bytes(data)), wanted)
+    tally.holds('every refusal is met', met == {0, 20, 21, 22, 23, 24} or count < 300, met)
+
+
+def test_library(tally, asm):
+    """--back asks the library that is named, and does nothing without it; to assemble needs none."""
+    asm.put_all()
+    with open(os.path.join(ROOT, 'build', 'liblupetzarin.so'), 'rb') as file:
+        asm.put('other.so', file.read())
+    for library, wanted in ((asm.at('other.so'), (0, BACK, '')), (asm.at('none.so'), (2, '', 'lupasm.py: the library cannot be loaded: ')),
+                            (asm.at('five.lup'), (2, '', 'lupasm.py: the library cannot be loaded: ')), ('libc.so.6', (2, '', 'lupasm.py: the library cannot be loaded: '))):
+        environment = {**os.environ, 'LUPETZARIN_LIBRARY': library}
+        with tally.case(library):
+            status, text, errors = asm.run('--back', 'five.plan', env=environment)
+            tally.same(('--back', library), (status, text, errors[:len(wanted[2])]), wanted)
+            tally.same(('one line', library), errors.count('\n'), int(status != 0))
+            tally.same(('assemble', library), asm.run('five.lup', '-o', '-', env=environment), (0, FIVE.decode('latin-1'), ''))
+
+
+# ------------------------------------------------------------------ reading
+
+def test_long(tally, asm):
+    """The longest plan and the longest text are read to their ends."""
+    longest = cases.pack(node(model.PAD, dict.fromkeys(model.USED_WORDS[model.PAD], 2 ** 34 - 1)) * 256)
+    tally.same('the longest plan', len(longest), 11778)
+    asm.put('long.plan', longest)
+    for words, more in (('long.plan',), {}), (('-',), {'input': longest}):
+        status, text, errors = asm.run('--back', *words, **more)
+        tally.same((words, 'back'), (status, text.count('\n'), errors), (0, 256, ''))
+        tally.same((words, 'and there again'), asm.run('-', '-o', '-', input=text.encode()), (0, longest.decode('latin-1'), ''))
+    for more in (1, 510, 511, 70000):
+        tally.same((more, 'bytes after it'), asm.run('--back', '-', input=longest + bytes(more)), failed('standard input', f'refused 22 at byte 11778: {RULES[22]}', 1))
+    last = b'\nsix = const i16 6'
+    for size in (1 << 12, 1 << 16, (1 << 16) + 1, 1 << 20, 3 << 20, 1 << 24):
+        text = TEXT + b'#' * (size - len(TEXT + last)) + last
+        asm.put('long.lup', text)
+        two = b'\x02\x00\x04\x0a\x00\x04\x0c'.decode('latin-1')
+        tally.same((size, 'a long text'), asm.run('long.lup', '-o', '-'), (0, two, ''))
+        tally.same((size, 'by standard input'), asm.run('-', '-o', '-', input=text), (0, two, ''))
+    asm.put('long.lup', text + b' ')
+    tally.same('too long a text', asm.run('long.lup', '-o', 'new.plan'), failed('long.lup', f'a text has at most {1 << 24} bytes'))
+
+
+def in_parts(asm, words, data, pause=0.05):
+    """The same as run, by standard input that comes in three parts."""
+    process = subprocess.Popen([sys.executable, '-B', asm.path, *words], cwd=asm.folder, stdin=subprocess.PIPE, stdout=subprocess.PIPE, stderr=subprocess.PIPE, bufsize=0)
+    cuts = 0, len(data) // 3, 2 * len(data) // 3, len(data)
+    for first, last in zip(cuts, cuts[1:]):
+        process.stdin.write(data[first:last])
+        time.sleep(pause)
+    text, errors = process.communicate(timeout=60)
+    return process.returncode, text.decode('latin-1'), errors.decode()
+
+
+def test_parts(tally, asm):
+    """A pipe gives what it has: reading goes on to the end, and what ends early for now is an error."""
+    asm.put_all()
+    text = b''.join(b'n%d = const i16 %d\n' % (k, k) for k in range(256))
+    packed = lupasm.assemble(text.decode())
+    tally.same('a text in parts', in_parts(asm, ('-', '-o', '-'), text), (0, packed.decode('latin-1'), ''))
+    tally.same('a plan in parts', in_parts(asm, ('--back', '-'), packed), (0, text.decode(), ''))
+    os.mkfifo(asm.at('pipe.lup'))
+    with subprocess.Popen([sys.executable, '-c', f'import time\nwith open("pipe.lup", "wb", 0) as f:\n for k in range(3): f.write({TEXT!r} if k == 1 else b"#\\n"); time.sleep(0.05)'],
+                          cwd=asm.folder):
+        tally.same('a fifo', asm.run('pipe.lup', '-o', '-'), (0, FIVE.decode('latin-1'), ''))
+    reader, writer = os.pipe()
+    os.set_blocking(reader, False)
+    for call, data in (('-', '-o', 'old.plan'), TEXT), (('--back', '-', '-o', 'old.plan'), FIVE):
+        os.write(writer, data)
+        tally.same((call, 'nothing for now'), asm.run(*call, stdin=reader), failed('standard input', 'it cannot be read: Resource temporarily unavailable'))
+    os.close(reader)
+    os.close(writer)
+    tally.same('nothing is written', asm.get('old.plan'), OLD)
+
+
+# ------------------------------------------------------------------ writing
+
+def make_device(path):
+    """A character device like /dev/null; a fifo where this user may make none."""
+    try:
+        os.mknod(path, stat.S_IFCHR | 0o666, os.makedev(1, 3))
+    except PermissionError:
+        os.mkfifo(path)
+
+
+def test_outputs(tally, asm):
+    """What is never written over: the file that is read, by whatever name, and what is no plain file."""
+    asm.put_all()
+    os.mkdir(asm.at('folder'))
+    os.symlink('.', asm.at('here'))
+    os.symlink('old.plan', asm.at('link'))
+    os.symlink('nothing', asm.at('dangling'))
+    os.symlink('ring', asm.at('ring'))
+    os.mkfifo(asm.at('pipe'))
+    make_device(asm.at('device'))
+    os.symlink('device', asm.at('device-link'))
+    for way, source in ('text', 'five.lup'), ('plan', 'five.plan'):
+        os.link(asm.at(source), asm.at(f'hard-{way}'))
+        os.symlink(source, asm.at(f'link-{way}'))
+        os.symlink(f'link-{way}', asm.at(f'link-link-{way}'))
+    with socket.socket(socket.AF_UNIX) as ear:
+        ear.bind(os.path.relpath(asm.at('socket')))
+        before = asm.seen()
+        for way, words, source in ('text', (), 'five.lup'), ('plan', ('--back',), 'five.plan'):
+            same = source, f'./{source}', f'folder/../{source}', f'here/{source}', asm.at(source), f'hard-{way}', f'link-{way}', f'link-link-{way}', f'here/link-{way}'
+            for name in same:
+                wanted = failed(name, 'it is to be read and to be written; nothing was done')
+                tally.same((way, name), (asm.run(*words, source, '-o', name), asm.seen() == before), (wanted, True))
+            for name in (source, f'hard-{way}', f'link-{way}'):
+                with open(asm.at(source), 'rb') as file:
+                    wanted = failed(name, 'it is to be read and to be written; nothing was done')
+                    tally.same((way, name, 'standard input'), (asm.run(*words, '-', '-o', name, stdin=file), asm.seen() == before), (wanted, True))
+            for name in ('folder', 'folder/', '.', 'link', 'dangling', 'pipe', 'socket', 'device', 'device-link', 'here/device'):
+                wanted = failed(name, 'what has this name is no plain file; it stays as it is')
+                tally.same((way, name), (asm.run(*words, source, '-o', name), asm.seen() == before), (wanted, True))
+            tally.same((way, 'a ring'), asm.run(*words, source, '-o', 'ring'), failed('ring', 'it cannot be written: Too many levels of symbolic links'))
+    tally.same('all stays', asm.seen() == before, True)
+    tally.same('a link to the text is read', asm.run('link-text', '-o', 'folder/five.lup'), (0, '', ''))
+    tally.same('the same name in another folder', (asm.get('folder/five.lup'), os.listdir(asm.at('folder'))), (FIVE, ['five.lup']))
+
+
+def test_kept(tally, asm):
+    """The mode of a file that is replaced is kept; the file itself is another one; a new file has the mode of any."""
+    asm.put_all()
+    for mode in (0o644, 0o600, 0o666, 0o755, 0o444, 0o640, 0o000, 0o4755):
+        with tally.case(oct(mode)):
+            asm.put('out', OLD)
+            os.chmod(asm.at('out'), mode)
+            os.link(asm.at('out'), asm.at('other'))
+            tally.same('done', asm.run('five.lup', '-o', 'out', umask=0o027), (0, '', ''))
+            tally.same('its mode', stat.S_IMODE(os.lstat(asm.at('out')).st_mode), mode)
+            os.chmod(asm.at('out'), 0o600)
+            os.chmod(asm.at('other'), 0o600)
+            tally.same('new and old', (asm.get('out'), asm.get('other')), (FIVE, OLD))
+            os.remove(asm.at('other'))
+            os.remove(asm.at('out'))
+    for mask in (0o022, 0o027, 0o077, 0o000):
+        tally.same(('a new file', oct(mask)), asm.run('five.lup', '-o', 'out', umask=mask), (0, '', ''))
+        tally.same(('its mode', oct(mask)), stat.S_IMODE(os.lstat(asm.at('out')).st_mode), 0o666 & ~mask)
+        os.remove(asm.at('out'))
+    name = 'n' * 255
+    tally.same('the longest name', (asm.run('five.lup', '-o', name), asm.get(name)), ((0, '', ''), FIVE))
+    tally.same('nothing beside them', sorted(os.listdir(asm.folder)), ['five.lup', 'five.plan', name, 'old.plan'])
+
+
+# Runs a program whose calls of the system are told, or fail, or meet a signal. POINT: the call; ACT: told, the name of
+# an error, or of a signal that comes before the call (of open: after it, as there is no file before).
+DRIVER = '''
+import errno, os, runpy, signal, sys
+point, act, program, *words = sys.argv[1:]
+calls, files = [], {}
+
+def acts():
+    if act.startswith('SIG'):
+        os.kill(os.getpid(), getattr(signal, act))
+    elif act == 'MemoryError':
+        raise MemoryError
+    elif act != 'told':
+        number = getattr(errno, act)
+        raise OSError(number, os.strerror(number))
+
+def wrap(name):
+    real = getattr(os, name)
+    def call(*given, **more):
+        mine = name != 'open' or given[1] & os.O_CREAT
+        if not mine or name in ('write', 'close', 'fsync', 'fchmod') and given[0] not in files:
+            return real(*given, **more)
+        if name == point and not (name == 'open' and act.startswith('SIG')):
+            acts()
+        result = real(*given, **more)
+        calls.append(name)
+        if name == 'open':
+            files[result] = given[0]
+            calls.append(os.path.dirname(given[0]))
+            if point == 'open' and act.startswith('SIG'):
+                acts()
+        return result
+    setattr(os, name, call)
+
+for name in 'open write fchmod fsync close replace rename remove unlink link truncate'.split():
+    wrap(name)
+sys.argv[:] = [program, *words]
+try:
+    runpy.run_path(program, run_name='__main__')
+finally:
+    if act == 'told':
+        print(*calls, file=sys.stderr)
+'''
+STEPS = ('open', 'write', 'fchmod', 'fsync', 'close', 'replace')
+
+
+def driven(point, act):
+    return {'before': ('-c', DRIVER, point, act)}
+
+
+def test_failures(tally, asm):
+    """Where a step fails, the file stays, and nothing is left beside it; so where there was no file."""
+    asm.put_all()
+    before = asm.seen()
+    for step in STEPS:
+        for number in (errno.ENOSPC, errno.EIO):
+            for call in (('five.lup', '-o', 'old.plan'), ('--back', 'five.plan', '-o', 'old.plan'), ('five.lup', '-o', 'new.plan')):
+                got = asm.run(*call, **driven(step, errno.errorcode[number]))
+                wanted = failed(call[-1], f'it cannot be written: {os.strerror(number)}')
+                if call[-1] == 'new.plan' and step == 'fchmod':
+                    wanted = 0, '', ''
+                    os.remove(asm.at('new.plan'))
+                tally.same((step, number, call), (got, asm.seen() == before), (wanted, True))
+        status, text, errors = asm.run('five.lup', '-o', 'old.plan', **driven(step, 'MemoryError'))
+        tally.same((step, 'memory'), (status, text, errors.endswith('MemoryError\n'), asm.seen() == before), (1, '', True, True))
+
+
+def test_order(tally, asm):
+    """The temporary file stands in the file's folder, is whole and on the disk before it gets the name; nothing else is touched."""
+    asm.put_all()
+    os.mkdir(asm.at('folder'))
+    for name, steps in (('old.plan', ['open', '', *STEPS[1:]]), ('new.plan', ['open', '', 'write', 'fsync', 'close', 'replace']),
+                        ('folder/new.plan', ['open', 'folder', 'write', 'fsync', 'close', 'replace'])):
+        tally.same((name, 'steps'), asm.run('five.lup', '-o', name, **driven('', 'told')), (0, '', ' '.join(steps) + '\n'))
+        tally.same((name, 'its bytes'), asm.get(name), FIVE)
+    tally.same('standard output', asm.run('five.lup', '-o', '-', **driven('', 'told')), (0, FIVE.decode('latin-1'), '\n'))
+    tally.same('--check', asm.run('five.lup', '--check', '-o', 'old.plan', **driven('', 'told')), (0, '', '\n'))
+
+
+def short_files():
+    resource.setrlimit(resource.RLIMIT_FSIZE, (3, 3))
+
+
+def test_full(tally, asm):
+    """Files end at three bytes, so that the first writing is done in part."""
+    asm.put_all()
+    before = asm.seen()
+    for call in (('five.lup', '-o', 'old.plan'), ('five.lup', '-o', 'new.plan'), ('--back', 'five.plan', '-o', 'old.plan')):
+        wanted = failed(call[-1], 'it cannot be written: File too large')
+        got = asm.run(*call, preexec_fn=short_files)
+        tally.same((call, 'full'), (got, asm.seen() == before), (wanted, True))
+    with tempfile.TemporaryFile() as file:
+        for call in (('five.lup', '-o', '-'), ('--back', 'five.plan')):
+            tally.same((call, 'full'), asm.run(*call, stdout=file, preexec_fn=short_files), failed('standard output', 'it cannot be written: File too large'))
+
+
+def test_taken(tally, asm):
+    """A name that the temporary file would have is left to what has it."""
+    asm.put_all()
+    asm.put('victim', OLD)
+    take = 'import os, sys\nfor k in range(int(sys.argv[1])): os.symlink("victim", f".lupasm-{os.getpid()}-{k}.tmp")\nos.execv(sys.executable, [sys.executable, *sys.argv[2:]])'
+    for count, wanted in ((1, (0, '', '')), (99, (0, '', '')), (100, failed('old.plan', 'it cannot be written: File exists'))):
+        with tally.case(count):
+            asm.put('old.plan', OLD)
+            tally.same('answer', asm.run('five.lup', '-o', 'old.plan', before=('-c', take, str(count))), wanted)
+            left = [name for name in os.listdir(asm.folder) if name.endswith('.tmp')]
+            tally.same('what had the names', (len(left), all(os.path.islink(asm.at(name)) for name in left)), (count, True))
+            tally.same('the files', (asm.get('victim'), asm.get('old.plan')), (OLD, OLD if wanted[0] else FIVE))
+            for name in left:
+                os.remove(asm.at(name))
+
+
+def test_signals(tally, asm):
+    """A signal that comes at any step of the writing ends the program, when the file is there and nothing beside it."""
+    asm.put_all()
+    names = sorted(os.listdir(asm.folder))
+    for name in ('SIGINT', 'SIGTERM', 'SIGHUP'):
+        for step in STEPS:
+            with tally.case((name, step)):
+                asm.put('old.plan', OLD)
+                tally.same('its end', asm.run('five.lup', '-o', 'old.plan', **driven(step, name)), (-getattr(signal, name), '', ''))
+                tally.same('what is there', (sorted(os.listdir(asm.folder)), asm.get('old.plan')), (names, FIVE))
+
+
+def test_waiting(tally, asm):
+    """A signal while it reads ends it, in silence; nothing is written."""
+    asm.put_all()
+    before = asm.seen()
+    for number in (signal.SIGINT, signal.SIGTERM):
+        process = subprocess.Popen([sys.executable, '-B', asm.path, '-', '-o', 'old.plan'], cwd=asm.folder, stdin=subprocess.PIPE, stdout=subprocess.PIPE, stderr=subprocess.PIPE)
+        process.stdin.write(TEXT * (1 << 16))      # more than a pipe holds: it is reading
+        process.send_signal(number)
+        process.wait(timeout=60)
+        told = process.stdout.read(), process.stderr.read()
+        process.stdin.close()
+        process.stdout.close()
+        process.stderr.close()
+        tally.same((number, 'waiting'), (process.returncode, told, asm.seen() == before), (-number, (b'', b''), True))
+
+
+def test_help(tally, asm):
+    for word in ('--help', '-h'):
+        status, text, errors = asm.run(word)
+        with tally.case(word):
+            tally.same((word, 'status'), (status, errors), (0, ''))
+            for part in ('lupasm.py TEXT -o PLAN', '--back PLAN', '--check', 'Exit status: 0 done;', *lupasm.FORMS):
+                tally.holds((word, part), part in text)
+    for name in ('small.lup', 'bay.lup'):
+        path = os.path.join(ROOT, 'demo', name)
+        tally.same(('--check', name), asm.run('--check', path), (0, '', ''))
 
 
 def test_example(tally):
@@ -122,8 +633,13 @@ def main():
     count = int(sys.argv[1]) if len(sys.argv) > 1 else 1000
     rng, tally = Random(int(sys.argv[2]) if len(sys.argv) > 2 else 3), Cases()
     test_lines(tally)
+    test_ranks(tally)
     test_plans(tally, rng, count)
-    test_program(tally)
+    test_damage(tally, rng, count)
+    for test in (test_program, test_messages, test_standard, test_check, test_back, test_library, test_long, test_parts, test_outputs,
+                 test_kept, test_failures, test_full, test_order, test_taken, test_signals, test_waiting, test_help):
+        with tempfile.TemporaryDirectory() as here:
+            test(tally, Assembler(PROGRAM, here))
     test_example(tally)
     tally.finish()
 
