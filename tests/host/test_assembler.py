@@ -19,7 +19,8 @@ from random import Random
 
 sys.dont_write_bytecode = True
 ROOT = os.path.dirname(os.path.dirname(os.path.dirname(os.path.abspath(__file__))))
-sys.path[:0] = [os.path.join(ROOT, part) for part in ('host', 'tests/host', 'tests/model', 'tests/boundary', 'tests/tools', 'demo')]
+sys.path[:0] = [os.path.join(ROOT, part) for part in
+                ('host', 'tests/host', 'tests/model', 'tests/boundary', 'tests/tools', 'demo')]
 
 import cases  # noqa: E402
 import lupasm  # noqa: E402
@@ -45,27 +46,29 @@ LINES = (
 )
 W, V = 'w = param i16 0..5 3x4 device 1\n', 'v = const i16 5\n'
 # a row that is not of its source's rank: shorter, then longer
-RANKS = [
-    (row, f"line 2: '{part}' is a row of rank {len(part.replace(',', 'x').split('x')) if part != '-' else 0}, and the source has rank 2")
-    for row, part in (
-        ('permute w 0', '0'), ('permute w -', '-'), ('flip w 1', '1'), ('flip w -', '-'), ('sum w 1', '1'), ('greatest w 1', '1'),
-        ('expand w 3', '3'), ('pad w 5 at 1x1', '5'), ('pad w 5x5 at 1', '1'), ('pad w 5x5 at -', '-'), ('shrink w 2 at 0x0', '2'),
-        ('shrink w 2x2 at 0', '0'), ('permute w 1,0,2', '1,0,2'), ('flip w 0x1x0', '0x1x0'), ('sum w 0x1x0', '0x1x0'),
-        ('greatest w 0x1x0', '0x1x0'), ('expand w 3x4x1', '3x4x1'), ('pad w 5x5x1 at 0x0', '5x5x1'), ('pad w 5x5 at 0x0x0', '0x0x0'),
-        ('shrink w 2x2x1 at 0x0', '2x2x1'), ('shrink w 2x2 at 0x0x0', '0x0x0'))]
+RANKS = (
+    ('permute w -', '-', 0), ('permute w 0', '0', 1), ('flip w -', '-', 0), ('flip w 1', '1', 1), ('sum w 1', '1', 1),
+    ('greatest w 1', '1', 1), ('expand w 3', '3', 1), ('pad w 5 at 1x1', '5', 1), ('pad w 5x5 at 1', '1', 1),
+    ('pad w 5x5 at -', '-', 0), ('shrink w 2 at 0x0', '2', 1), ('shrink w 2x2 at 0', '0', 1),
+    ('permute w 1,0,2', '1,0,2', 3), ('flip w 0x1x0', '0x1x0', 3), ('sum w 0x1x0', '0x1x0', 3),
+    ('greatest w 0x1x0', '0x1x0', 3), ('expand w 3x4x1', '3x4x1', 3), ('pad w 5x5x1 at 0x0', '5x5x1', 3),
+    ('pad w 5x5 at 0x0x0', '0x0x0', 3), ('shrink w 2x2x1 at 0x0', '2x2x1', 3), ('shrink w 2x2 at 0x0x0', '0x0x0', 3))
 # a line after W and V, and its rank
 RANKED = (
-    ('const i16 1', 0), ('param u8 0..1 1x2x3 device 1', 3), ('param u8 0..1 - device 1', 0), ('permute w 1,0', 2), ('flip w 0x1', 2),
-    ('reshape w 12', 1), ('reshape w 2x2x3x1', 4), ('expand w 3x4', 2), ('pad w 5x5 at 1x1', 2), ('shrink w 2x2 at 0x0', 2), ('cast w i32', 2),
-    ('add v w', 2), ('add w v', 2), ('add v v', 0), ('where v v w', 2), ('where w v v', 2), ('sum w 1x1', 2), ('greatest w 0x0', 2),
-    ('load w device 3', 2), ('load v device 3', 0), ('node 20 1=0', 2), ('node 4 1=0 9=12', 1))
+    ('const i16 1', 0), ('param u8 0..1 1x2x3 device 1', 3), ('param u8 0..1 - device 1', 0), ('permute w 1,0', 2),
+    ('flip w 0x1', 2), ('reshape w 12', 1), ('reshape w 2x2x3x1', 4), ('expand w 3x4', 2), ('pad w 5x5 at 1x1', 2),
+    ('shrink w 2x2 at 0x0', 2), ('cast w i32', 2), ('add v w', 2), ('add w v', 2), ('add v v', 0), ('where v v w', 2),
+    ('where w v v', 2), ('sum w 1x1', 2), ('greatest w 0x0', 2), ('load w device 3', 2), ('load v device 3', 0),
+    ('node 20 1=0', 2), ('node 4 1=0 9=12', 1))
 # a text, and what the message says of it
 WRONG = (
-    *((W + 'v = ' + row, message) for row, message in RANKS),
-    ('w = param i16 0..5 0 device 1', "'0' has an extent of 0"), ('w = param i16 0..5 3x0 device 1', "'3x0' has an extent of 0"),
-    (W + 'v = reshape w 12x0', "line 2: '12x0' has an extent of 0"), (W + 'v = pad w 0x5 at 0x0', "'0x5' has an extent of 0"),
-    (W + 'v = expand w 3x0', "'3x0' has an extent of 0"), (W + 'v = shrink w 3x0 at 0x0', "'3x0' has an extent of 0"),
-    ('w = const i16 ' + '9' * 5000, '999 cannot be packed'), ('w = const i32 -17179869185', '-17179869185 cannot be packed'),
+    *((f'{W}v = {line}', f"line 2: '{row}' is a row of rank {rank}, and the source has rank 2") for line, row, rank in RANKS),
+    ('w = param i16 0..5 0 device 1', "'0' has an extent of 0"),
+    ('w = param i16 0..5 3x0 device 1', "'3x0' has an extent of 0"),
+    (W + 'v = reshape w 12x0', "line 2: '12x0' has an extent of 0"),
+    (W + 'v = pad w 0x5 at 0x0', "'0x5' has an extent of 0"), (W + 'v = expand w 3x0', "'3x0' has an extent of 0"),
+    (W + 'v = shrink w 3x0 at 0x0', "'3x0' has an extent of 0"), ('w = const i16 ' + '9' * 5000, '999 cannot be packed'),
+    ('w = const i32 -17179869185', '-17179869185 cannot be packed'),
     ('w = node 0 \u00b2=3', 'operation 0 has the words 4, 5'), ('w = node 0 \u0664=3', 'operation 0 has the words 4, 5'),
     ('', 'there is no node'), ('# nothing\n\n', 'there is no node'), ('w', 'line 1: a line is'), ('\nw = const', 'line 2: a type is missing'),
     ('w = const i16', 'a number is missing'), ('w = const i17 5', "'i17' is no type"), ('w = const i16 five', "'five' is no whole number"),
@@ -147,20 +150,32 @@ def test_plans(tally, rng, count):
 # ------------------------------------------------------------- the program
 
 FIVE = bytes.fromhex('0100040A')
+PACKED = FIVE.decode('latin-1')
 TEXT, BACK = b'five = const i16 5\n', 'n0 = const i16 5\n'
 OLD = b'what was there'
+DONE = 0, '', ''
+APART = 'it is to be read and to be written; nothing was done'
+PLAIN = 'what has this name is no plain file; it stays as it is'
+NO_LINE = 'a line is `name = operation ..`'
 
 
 class Assembler(Program):
     """Runs the assembler in a folder of its own."""
+
+    def call(self, *words, before=()):
+        return [sys.executable, '-B', *before, self.path, *words]
 
     def run(self, *words, before=(), **more):
         """Exit status, standard output with a character a byte, standard error."""
         pipes = {'stdout': subprocess.PIPE, 'stderr': subprocess.PIPE, **more}
         if 'input' not in pipes:
             pipes.setdefault('stdin', subprocess.DEVNULL)
-        done = subprocess.run([sys.executable, '-B', *before, self.path, *words], cwd=self.folder, timeout=60, check=False, **pipes)
+        done = subprocess.run(self.call(*words, before=before), cwd=self.folder, timeout=60, check=False, **pipes)
         return done.returncode, (done.stdout or b'').decode('latin-1'), (done.stderr or b'').decode(errors='replace')
+
+    def start(self, *words):
+        pipes = dict.fromkeys(('stdin', 'stdout', 'stderr'), subprocess.PIPE)
+        return subprocess.Popen(self.call(*words), cwd=self.folder, bufsize=0, **pipes)
 
     def put_all(self):
         self.put('five.lup', TEXT)
@@ -182,12 +197,24 @@ def failed(name, message, status=2):
     return status, '', f'lupasm.py: {name}: {message}\n'
 
 
+def unread(name, why):
+    return failed(name, f'it cannot be read: {os.strerror(why)}')
+
+
+def unwritten(name, why):
+    return failed(name, f'it cannot be written: {os.strerror(why)}')
+
+
+def refused(name, number, place):
+    return failed(name, f'refused {number} at byte {place}: {RULES[number]}', 1)
+
+
 def test_program(tally, asm):
     asm.put('five.lup', TEXT)
-    tally.same('assemble', asm.run('five.lup', '-o', 'five.plan'), (0, '', ''))
+    tally.same('assemble', asm.run('five.lup', '-o', 'five.plan'), DONE)
     tally.same('01 00 04 0A', asm.get('five.plan'), FIVE)
     tally.same('back', asm.run('--back', 'five.plan'), (0, BACK, ''))
-    tally.same('back to a file', asm.run('--back', 'five.plan', '-o', 'back.lup'), (0, '', ''))
+    tally.same('back to a file', asm.run('--back', 'five.plan', '-o', 'back.lup'), DONE)
     tally.same('its text', asm.get('back.lup'), BACK.encode())
     asm.put('five.lup', b'five = const i16 5\nsix = const i16\n')
     tally.same('a wrong line', asm.run('five.lup', '-o', 'five.plan'), failed('five.lup:2', 'a number is missing'))
@@ -196,9 +223,10 @@ def test_program(tally, asm):
 
 
 MISUSE = (
-    (), ('five.lup',), ('--back',), ('--check',), ('five.lup', '-o'), ('five.lup', '-x', 'five.plan'), ('five.lup', 'five.lup', '-o', 'five.plan'),
-    ('five.lup', '-o', 'five.plan', '-o', 'five.plan'), ('five.lup', '-o', ''), ('', '-o', 'five.plan'), ('--back', ''), ('--bac', 'five.plan'),
-    ('--chec', 'five.lup'), ('five.lup', '-o', 'five.plan', '--force'))
+    (), ('five.lup',), ('--back',), ('--check',), ('five.lup', '-o'), ('five.lup', '-x', 'five.plan'),
+    ('five.lup', 'five.lup', '-o', 'five.plan'), ('five.lup', '-o', 'five.plan', '-o', 'five.plan'),
+    ('five.lup', '-o', ''), ('', '-o', 'five.plan'), ('--back', ''), ('--bac', 'five.plan'), ('--chec', 'five.lup'),
+    ('five.lup', '-o', 'five.plan', '--force'))
 
 
 def test_messages(tally, asm):
@@ -206,49 +234,67 @@ def test_messages(tally, asm):
     asm.put_all()
     before = asm.seen()
     for call in MISUSE:
-        status, text, errors = asm.run(*call)
-        tally.same(call, (status, text, errors[:21], 'lupasm.py: error: ' in errors, asm.seen() == before), (2, '', 'usage: lupasm.py TEXT', True, True))
-    none, folder = 'it cannot be read: No such file or directory', 'it cannot be read: Is a directory'
+        with tally.case(call):
+            status, text, errors = asm.run(*call)
+            tally.same((call, 'status'), (status, text), (2, ''))
+            tally.holds((call, 'usage'), errors.startswith('usage: lupasm.py TEXT -o PLAN'), errors)
+            tally.holds((call, 'message'), '\nlupasm.py: error: ' in errors, errors)
+            tally.same((call, 'all stays'), asm.seen() == before, True)
     for call, wanted in (
-            (('none.lup', '-o', 'new.plan'), failed('none.lup', none)), (('--back', 'none.plan'), failed('none.plan', none)),
-            (('.', '-o', 'new.plan'), failed('.', folder)), (('--back', '.'), failed('.', folder)),
-            (('five.lup', '-o', 'none/new.plan'), failed('none/new.plan', 'it cannot be written: No such file or directory')),
-            (('five.lup', '-o', 'old.plan/new.plan'), failed('old.plan/new.plan', 'it cannot be written: Not a directory')),
-            (('--back', 'five.plan', '-o', 'none/new.lup'), failed('none/new.lup', 'it cannot be written: No such file or directory')),
-            (('--back', 'five.lup'), failed('five.lup', f'refused 24 at byte 1: {RULES[24]}', 1))):
+            (('none.lup', '-o', 'new.plan'), unread('none.lup', errno.ENOENT)),
+            (('--back', 'none.plan'), unread('none.plan', errno.ENOENT)),
+            (('.', '-o', 'new.plan'), unread('.', errno.EISDIR)),
+            (('--back', '.'), unread('.', errno.EISDIR)),
+            (('five.lup', '-o', 'none/new.plan'), unwritten('none/new.plan', errno.ENOENT)),
+            (('five.lup', '-o', 'old.plan/new.plan'), unwritten('old.plan/new.plan', errno.ENOTDIR)),
+            (('--back', 'five.plan', '-o', 'none/new.lup'), unwritten('none/new.lup', errno.ENOENT)),
+            (('--back', 'five.lup'), refused('five.lup', 24, 1))):
         tally.same(call, (asm.run(*call), asm.seen() == before), (wanted, True))
     for data, wanted in (
-            (b'', failed('wrong.lup', 'there is no node')), (TEXT + b'\n# \xc3\xa9\nsix = \xff\n', failed('wrong.lup:4', 'byte FF is no UTF-8')),
-            (TEXT + b'# \xc3', failed('wrong.lup:2', 'byte C3 is no UTF-8')), (TEXT + b'\rsix\r\n', failed('wrong.lup:3', 'a line is `name = operation ..`')),
-            (bytes(1 << 20), failed('wrong.lup:1', 'a line is `name = operation ..`'))):
+            (b'', failed('wrong.lup', 'there is no node')),
+            (TEXT + b'\n# \xc3\xa9\nsix = \xff\n', failed('wrong.lup:4', 'byte FF is no UTF-8')),
+            (TEXT + b'# \xc3', failed('wrong.lup:2', 'byte C3 is no UTF-8')),
+            (TEXT + b'# a comment\rsix\r\n', failed('wrong.lup:3', NO_LINE)),
+            (bytes(1 << 20), failed('wrong.lup:1', NO_LINE))):
         asm.put('wrong.lup', data)
-        tally.same(('wrong.lup', data[:30]), (asm.run('wrong.lup', '-o', 'new.plan'), os.path.exists(asm.at('new.plan'))), (wanted, False))
+        got = asm.run('wrong.lup', '-o', 'new.plan')
+        tally.same(('wrong.lup', data[:30]), (got, os.path.exists(asm.at('new.plan'))), (wanted, False))
+
+
+# Runs the words after the first with that descriptor closed.
+CLOSED = '''
+import os, sys
+os.close(int(sys.argv[1]))
+os.execv(sys.executable, [sys.executable, *sys.argv[2:]])
+'''
 
 
 def test_standard(tally, asm):
     """`-` is standard input and standard output; a file of that name is ./-"""
     asm.put_all()
-    packed = FIVE.decode('latin-1')
-    tally.same('to standard output', asm.run('five.lup', '-o', '-'), (0, packed, ''))
-    tally.same('from standard input', asm.run('-', '-o', '-', input=TEXT), (0, packed, ''))
-    tally.same('from standard input to a file', (asm.run('-', '-o', 'new.plan', input=TEXT), asm.get('new.plan')), ((0, '', ''), FIVE))
+    tally.same('to standard output', asm.run('five.lup', '-o', '-'), (0, PACKED, ''))
+    tally.same('from standard input', asm.run('-', '-o', '-', input=TEXT), (0, PACKED, ''))
+    tally.same('to a file', (asm.run('-', '-o', 'new.plan', input=TEXT), asm.get('new.plan')), (DONE, FIVE))
     tally.same('back from standard input', asm.run('--back', '-', input=FIVE), (0, BACK, ''))
     tally.same('back to standard output', asm.run('--back', '-', '-o', '-', input=FIVE), (0, BACK, ''))
-    tally.same('a wrong line', asm.run('-', '-o', 'new.plan', input=TEXT + b'six\n'), failed('standard input:2', 'a line is `name = operation ..`'))
-    tally.same('a refusal', asm.run('--back', '-', input=b'\0'), failed('standard input', f'refused 23 at byte 0: {RULES[23]}', 1))
+    got = asm.run('-', '-o', 'new.plan', input=TEXT + b'six\n')
+    tally.same('a wrong line', got, failed('standard input:2', NO_LINE))
+    tally.same('a refusal', asm.run('--back', '-', input=b'\0'), refused('standard input', 23, 0))
     asm.put('-', TEXT)
-    tally.same('a file of that name', asm.run('./-', '-o', '-'), (0, packed, ''))
-    tally.same('after --', asm.run('-o', '-', '--', '-', input=TEXT), (0, packed, ''))
+    tally.same('a file of that name', asm.run('./-', '-o', '-'), (0, PACKED, ''))
+    tally.same('after --', asm.run('-o', '-', '--', '-', input=TEXT), (0, PACKED, ''))
     with open('/dev/full', 'wb') as full:
         for call in (('five.lup', '-o', '-'), ('--back', 'five.plan'), ('--help',)):
-            tally.same((call, 'full'), asm.run(*call, stdout=full), failed('standard output', 'it cannot be written: No space left on device'))
-    closed = {'stdin': subprocess.DEVNULL, 'before': ('-c', 'import os, sys; os.close(int(sys.argv[1])); os.execv(sys.executable, [sys.executable, *sys.argv[2:]])')}
-    message = 'it cannot be %s: Bad file descriptor'
-    for number, call, wanted in ((0, ('-', '-o', 'x'), failed('standard input', message % 'read')), (1, ('five.lup', '-o', '-'), failed('standard output', message % 'written')),
-                                 (1, ('five.lup', '-o', 'new.plan'), (0, '', '')), (2, ('five.lup', '-o', '-'), (0, packed, '')), (2, ('none.lup', '-o', '-'), (2, '', ''))):
-        tally.same((call, number, 'is closed'), asm.run(*call, **{**closed, 'before': (*closed['before'], str(number))}), wanted)
+            tally.same((call, 'full'), asm.run(*call, stdout=full), unwritten('standard output', errno.ENOSPC))
+    for number, call, wanted in (
+            (0, ('-', '-o', 'new.plan'), unread('standard input', errno.EBADF)),
+            (1, ('five.lup', '-o', '-'), unwritten('standard output', errno.EBADF)),
+            (1, ('five.lup', '-o', 'new.plan'), DONE), (2, ('five.lup', '-o', '-'), (0, PACKED, '')),
+            (2, ('none.lup', '-o', '-'), (2, '', ''))):
+        tally.same((call, number, 'is closed'), asm.run(*call, before=('-c', CLOSED, str(number))), wanted)
     with open(asm.at('five.lup'), 'ab') as file:
-        tally.same('standard output is the text', asm.run('five.lup', '-o', '-', stdout=file), failed('standard output', 'it is to be read and to be written; nothing was done'))
+        got = asm.run('five.lup', '-o', '-', stdout=file)
+        tally.same('standard output is the text', got, failed('standard output', APART))
     tally.same('it stays', asm.get('five.lup'), TEXT)
 
 
@@ -259,26 +305,30 @@ def test_check(tally, asm):
     asm.put('wrong.plan', b'\0')
     os.mkfifo(asm.at('pipe'))
     before = asm.seen()
-    apart, plain = 'it is to be read and to be written; nothing was done', 'what has this name is no plain file; it stays as it is'
-    wrong, refused = failed('wrong.lup:2', 'a line is `name = operation ..`'), failed('wrong.plan', f'refused 23 at byte 0: {RULES[23]}', 1)
     for call, wanted in (
-            (('five.lup',), (0, '', '')), (('five.lup', '-o', 'new.plan'), (0, '', '')), (('five.lup', '-o', 'old.plan'), (0, '', '')),
-            (('five.lup', '-o', '-'), (0, '', '')), (('-',), (0, '', '')), (('wrong.lup',), wrong), (('wrong.lup', '-o', 'old.plan'), wrong),
-            (('five.lup', '-o', 'five.lup'), failed('five.lup', apart)), (('five.lup', '-o', 'pipe'), failed('pipe', plain)),
-            (('--back', 'five.plan'), (0, '', '')), (('--back', 'five.plan', '-o', 'old.plan'), (0, '', '')), (('--back', 'wrong.plan'), refused),
-            (('--back', 'five.plan', '-o', 'five.plan'), failed('five.plan', apart)), (('none.lup',), failed('none.lup', 'it cannot be read: No such file or directory'))):
+            (('five.lup',), DONE), (('five.lup', '-o', 'new.plan'), DONE), (('five.lup', '-o', 'old.plan'), DONE),
+            (('five.lup', '-o', '-'), DONE), (('-',), DONE), (('wrong.lup',), failed('wrong.lup:2', NO_LINE)),
+            (('wrong.lup', '-o', 'old.plan'), failed('wrong.lup:2', NO_LINE)),
+            (('five.lup', '-o', 'five.lup'), failed('five.lup', APART)),
+            (('five.lup', '-o', 'pipe'), failed('pipe', PLAIN)),
+            (('none.lup',), unread('none.lup', errno.ENOENT)),
+            (('--back', 'five.plan'), DONE), (('--back', 'five.plan', '-o', 'old.plan'), DONE),
+            (('--back', 'wrong.plan'), refused('wrong.plan', 23, 0)),
+            (('--back', 'five.plan', '-o', 'five.plan'), failed('five.plan', APART))):
         tally.same(('--check', *call), (asm.run('--check', *call, input=TEXT), asm.seen() == before), (wanted, True))
-    tally.same('--check behind', (asm.run('five.lup', '-o', 'old.plan', '--check'), asm.seen() == before), ((0, '', ''), True))
+    got = asm.run('five.lup', '-o', 'old.plan', '--check')
+    tally.same('--check behind', (got, asm.seen() == before), (DONE, True))
 
 
-# ---------------------------------------------------------- back: what the library refuses
+# ------------------------------------------------ what the library refuses
 
 # number, place, bytes: all that the library can refuse of bytes
 REFUSED = [(number, place, bytes.fromhex(data)) for number, place, data in (
     (20, 0, ''), (20, 1, '01'), (20, 0, '80'), (20, 3, '010004'), (20, 3, '01000480'), (20, 3, '010004FFFFFFFF'),
-    (21, 0, '8100040A'), (21, 0, '8000'), (21, 1, '0180000 40A'.replace(' ', '')), (21, 2, '010084000A'), (21, 3, '0100048A00'), (21, 3, '0100048000'),
-    (21, 0, 'FFFFFFFFFF'), (21, 3, '010004FFFFFFFFFF'), (21, 3, '010004FFFFFFFFFF01'), (22, 4, '0100040A00'), (22, 4, '0100040A0100040A'),
-    (23, 0, '00'), (23, 0, '000004'), (23, 0, '8102'), (23, 0, 'FFFFFFFF7F'), (24, 1, '0115'), (24, 1, '017F'), (24, 1, '01FF01'))]
+    (21, 0, '8100040A'), (21, 0, '8000'), (21, 1, '018000040A'), (21, 2, '010084000A'), (21, 3, '0100048A00'),
+    (21, 3, '0100048000'), (21, 0, 'FFFFFFFFFF'), (21, 3, '010004FFFFFFFFFF'), (21, 3, '010004FFFFFFFFFF01'),
+    (22, 4, '0100040A00'), (22, 4, '0100040A0100040A'), (23, 0, '00'), (23, 0, '000004'), (23, 0, '8102'),
+    (23, 0, 'FFFFFFFF7F'), (24, 1, '0115'), (24, 1, '017F'), (24, 1, '01FF01'))]
 
 
 def answer_of(data):
@@ -303,14 +353,14 @@ def test_back(tally, asm):
             tally.same('the model', answer_of(data), (number, place))
             tally.same('the assembler', back_of(data), (number, place))
             asm.put('bad.plan', data)
-            message = failed('bad.plan', f'refused {number} at byte {place}: {RULES[number]}', 1)
-            tally.same('the program', asm.run('--back', 'bad.plan'), message)
-    tally.same('to a file', (asm.run('--back', 'bad.plan', '-o', 'old.lup'), asm.get('old.lup')), (message, OLD))
+            tally.same('the program', asm.run('--back', 'bad.plan'), refused('bad.plan', number, place))
+    got = asm.run('--back', 'bad.plan', '-o', 'old.lup')
+    tally.same('to a file', (got, asm.get('old.lup')), (refused('bad.plan', number, place), OLD))
     tally.same('every refusal', {number for number, _, _ in REFUSED}, {20, 21, 22, 23, 24})
 
 
 def test_damage(tally, rng, count):
-    """Packed plans with a byte or more changed, put in, taken out or cut off: unpacked or refused as the model says."""
+    """Packed plans with bytes changed, put in, taken out or cut off: unpacked or refused as the model says."""
     met = set()
     plans = [cases.pack(run.table) for run in run_cases.random_runs(rng, 40)] + [FIVE]
     for _ in range(count):
@@ -330,14 +380,15 @@ def test_library(tally, asm):
     asm.put_all()
     with open(os.path.join(ROOT, 'build', 'liblupetzarin.so'), 'rb') as file:
         asm.put('other.so', file.read())
-    for library, wanted in ((asm.at('other.so'), (0, BACK, '')), (asm.at('none.so'), (2, '', 'lupasm.py: the library cannot be loaded: ')),
-                            (asm.at('five.lup'), (2, '', 'lupasm.py: the library cannot be loaded: ')), ('libc.so.6', (2, '', 'lupasm.py: the library cannot be loaded: '))):
+    none = 2, '', 'lupasm.py: the library cannot be loaded: '
+    for library, wanted in (
+            (asm.at('other.so'), (0, BACK, '')), (asm.at('none.so'), none), (asm.at('five.lup'), none), ('libc.so.6', none)):
         environment = {**os.environ, 'LUPETZARIN_LIBRARY': library}
         with tally.case(library):
             status, text, errors = asm.run('--back', 'five.plan', env=environment)
-            tally.same(('--back', library), (status, text, errors[:len(wanted[2])]), wanted)
-            tally.same(('one line', library), errors.count('\n'), int(status != 0))
-            tally.same(('assemble', library), asm.run('five.lup', '-o', '-', env=environment), (0, FIVE.decode('latin-1'), ''))
+            tally.same('--back', (status, text, errors[:len(wanted[2])]), wanted)
+            tally.same('one line', errors.count('\n'), int(status != 0))
+            tally.same('assemble', asm.run('five.lup', '-o', '-', env=environment), (0, PACKED, ''))
 
 
 # ------------------------------------------------------------------ reading
@@ -350,29 +401,42 @@ def test_long(tally, asm):
     for words, more in (('long.plan',), {}), (('-',), {'input': longest}):
         status, text, errors = asm.run('--back', *words, **more)
         tally.same((words, 'back'), (status, text.count('\n'), errors), (0, 256, ''))
-        tally.same((words, 'and there again'), asm.run('-', '-o', '-', input=text.encode()), (0, longest.decode('latin-1'), ''))
+        again = asm.run('-', '-o', '-', input=text.encode())
+        tally.same((words, 'and there again'), again, (0, longest.decode('latin-1'), ''))
     for more in (1, 510, 511, 70000):
-        tally.same((more, 'bytes after it'), asm.run('--back', '-', input=longest + bytes(more)), failed('standard input', f'refused 22 at byte 11778: {RULES[22]}', 1))
+        got = asm.run('--back', '-', input=longest + bytes(more))
+        tally.same((more, 'bytes after it'), got, refused('standard input', 22, 11778))
     last = b'\nsix = const i16 6'
     for size in (1 << 12, 1 << 16, (1 << 16) + 1, 1 << 20, 3 << 20, 1 << 24):
         text = TEXT + b'#' * (size - len(TEXT + last)) + last
         asm.put('long.lup', text)
-        two = b'\x02\x00\x04\x0a\x00\x04\x0c'.decode('latin-1')
-        tally.same((size, 'a long text'), asm.run('long.lup', '-o', '-'), (0, two, ''))
-        tally.same((size, 'by standard input'), asm.run('-', '-o', '-', input=text), (0, two, ''))
+        two = 0, '\x02\x00\x04\x0a\x00\x04\x0c', ''
+        tally.same((size, 'a long text'), asm.run('long.lup', '-o', '-'), two)
+        tally.same((size, 'by standard input'), asm.run('-', '-o', '-', input=text), two)
     asm.put('long.lup', text + b' ')
-    tally.same('too long a text', asm.run('long.lup', '-o', 'new.plan'), failed('long.lup', f'a text has at most {1 << 24} bytes'))
+    got = asm.run('long.lup', '-o', 'new.plan')
+    tally.same('too long a text', got, failed('long.lup', f'a text has at most {1 << 24} bytes'))
 
 
-def in_parts(asm, words, data, pause=0.05):
+def in_parts(asm, words, data):
     """The same as run, by standard input that comes in three parts."""
-    process = subprocess.Popen([sys.executable, '-B', asm.path, *words], cwd=asm.folder, stdin=subprocess.PIPE, stdout=subprocess.PIPE, stderr=subprocess.PIPE, bufsize=0)
+    process = asm.start(*words)
     cuts = 0, len(data) // 3, 2 * len(data) // 3, len(data)
     for first, last in zip(cuts, cuts[1:]):
         process.stdin.write(data[first:last])
-        time.sleep(pause)
+        time.sleep(0.05)
     text, errors = process.communicate(timeout=60)
     return process.returncode, text.decode('latin-1'), errors.decode()
+
+
+# Writes its first argument into a fifo, in parts.
+SLOW = '''
+import sys, time
+with open('pipe.lup', 'wb', 0) as file:
+    for letter in sys.argv[1]:
+        file.write(letter.encode())
+        time.sleep(0.005)
+'''
 
 
 def test_parts(tally, asm):
@@ -383,14 +447,14 @@ def test_parts(tally, asm):
     tally.same('a text in parts', in_parts(asm, ('-', '-o', '-'), text), (0, packed.decode('latin-1'), ''))
     tally.same('a plan in parts', in_parts(asm, ('--back', '-'), packed), (0, text.decode(), ''))
     os.mkfifo(asm.at('pipe.lup'))
-    with subprocess.Popen([sys.executable, '-c', f'import time\nwith open("pipe.lup", "wb", 0) as f:\n for k in range(3): f.write({TEXT!r} if k == 1 else b"#\\n"); time.sleep(0.05)'],
-                          cwd=asm.folder):
-        tally.same('a fifo', asm.run('pipe.lup', '-o', '-'), (0, FIVE.decode('latin-1'), ''))
+    with subprocess.Popen([sys.executable, '-c', SLOW, TEXT.decode()], cwd=asm.folder):
+        tally.same('a fifo', asm.run('pipe.lup', '-o', '-'), (0, PACKED, ''))
     reader, writer = os.pipe()
     os.set_blocking(reader, False)
     for call, data in (('-', '-o', 'old.plan'), TEXT), (('--back', '-', '-o', 'old.plan'), FIVE):
         os.write(writer, data)
-        tally.same((call, 'nothing for now'), asm.run(*call, stdin=reader), failed('standard input', 'it cannot be read: Resource temporarily unavailable'))
+        got = asm.run(*call, stdin=reader)
+        tally.same((call, 'nothing for now'), got, unread('standard input', errno.EAGAIN))
     os.close(reader)
     os.close(writer)
     tally.same('nothing is written', asm.get('old.plan'), OLD)
@@ -410,68 +474,67 @@ def test_outputs(tally, asm):
     """What is never written over: the file that is read, by whatever name, and what is no plain file."""
     asm.put_all()
     os.mkdir(asm.at('folder'))
-    os.symlink('.', asm.at('here'))
-    os.symlink('old.plan', asm.at('link'))
-    os.symlink('nothing', asm.at('dangling'))
-    os.symlink('ring', asm.at('ring'))
     os.mkfifo(asm.at('pipe'))
     make_device(asm.at('device'))
-    os.symlink('device', asm.at('device-link'))
-    for way, source in ('text', 'five.lup'), ('plan', 'five.plan'):
-        os.link(asm.at(source), asm.at(f'hard-{way}'))
-        os.symlink(source, asm.at(f'link-{way}'))
-        os.symlink(f'link-{way}', asm.at(f'link-link-{way}'))
+    for name, link in (
+            ('.', 'here'), ('old.plan', 'link'), ('nothing', 'dangling'), ('ring', 'ring'), ('device', 'device-link'),
+            ('five.lup', 'soft-lup'), ('soft-lup', 'softer-lup'), ('five.plan', 'soft-plan'), ('soft-plan', 'softer-plan')):
+        os.symlink(name, asm.at(link))
+    os.link(asm.at('five.lup'), asm.at('hard-lup'))
+    os.link(asm.at('five.plan'), asm.at('hard-plan'))
     with socket.socket(socket.AF_UNIX) as ear:
         ear.bind(os.path.relpath(asm.at('socket')))
-        before = asm.seen()
-        for way, words, source in ('text', (), 'five.lup'), ('plan', ('--back',), 'five.plan'):
-            same = source, f'./{source}', f'folder/../{source}', f'here/{source}', asm.at(source), f'hard-{way}', f'link-{way}', f'link-link-{way}', f'here/link-{way}'
-            for name in same:
-                wanted = failed(name, 'it is to be read and to be written; nothing was done')
-                tally.same((way, name), (asm.run(*words, source, '-o', name), asm.seen() == before), (wanted, True))
-            for name in (source, f'hard-{way}', f'link-{way}'):
-                with open(asm.at(source), 'rb') as file:
-                    wanted = failed(name, 'it is to be read and to be written; nothing was done')
-                    tally.same((way, name, 'standard input'), (asm.run(*words, '-', '-o', name, stdin=file), asm.seen() == before), (wanted, True))
-            for name in ('folder', 'folder/', '.', 'link', 'dangling', 'pipe', 'socket', 'device', 'device-link', 'here/device'):
-                wanted = failed(name, 'what has this name is no plain file; it stays as it is')
-                tally.same((way, name), (asm.run(*words, source, '-o', name), asm.seen() == before), (wanted, True))
-            tally.same((way, 'a ring'), asm.run(*words, source, '-o', 'ring'), failed('ring', 'it cannot be written: Too many levels of symbolic links'))
-    tally.same('all stays', asm.seen() == before, True)
-    tally.same('a link to the text is read', asm.run('link-text', '-o', 'folder/five.lup'), (0, '', ''))
-    tally.same('the same name in another folder', (asm.get('folder/five.lup'), os.listdir(asm.at('folder'))), (FIVE, ['five.lup']))
+    before = asm.seen()
+
+    def refuses(wanted, *call, **more):
+        tally.same(call, (asm.run(*call, **more), asm.seen() == before), (wanted, True))
+
+    for words, kind in ((), 'lup'), (('--back',), 'plan'):
+        source = f'five.{kind}'
+        links = f'hard-{kind}', f'soft-{kind}', f'softer-{kind}', f'here/soft-{kind}'
+        for name in (source, f'./{source}', f'folder/../{source}', f'here/{source}', asm.at(source), *links):
+            refuses(failed(name, APART), *words, source, '-o', name)
+        for name in (source, *links):
+            with open(asm.at(source), 'rb') as file:
+                refuses(failed(name, APART), *words, '-', '-o', name, stdin=file)
+        for name in ('folder', 'folder/', '.', 'link', 'dangling', 'pipe', 'socket', 'device', 'device-link', 'here/device'):
+            refuses(failed(name, PLAIN), *words, source, '-o', name)
+        refuses(unwritten('ring', errno.ELOOP), *words, source, '-o', 'ring')
+    tally.same('a link to the text is read', asm.run('soft-lup', '-o', 'folder/five.lup'), DONE)
+    there = asm.get('folder/five.lup'), os.listdir(asm.at('folder'))
+    tally.same('the same name in another folder', there, (FIVE, ['five.lup']))
 
 
 def test_kept(tally, asm):
-    """The mode of a file that is replaced is kept; the file itself is another one; a new file has the mode of any."""
+    """The mode of a file that is replaced is kept, its other names keep what it held; a new file has the mode of any."""
     asm.put_all()
     for mode in (0o644, 0o600, 0o666, 0o755, 0o444, 0o640, 0o000, 0o4755):
         with tally.case(oct(mode)):
             asm.put('out', OLD)
             os.chmod(asm.at('out'), mode)
             os.link(asm.at('out'), asm.at('other'))
-            tally.same('done', asm.run('five.lup', '-o', 'out', umask=0o027), (0, '', ''))
+            tally.same('done', asm.run('five.lup', '-o', 'out', umask=0o027), DONE)
             tally.same('its mode', stat.S_IMODE(os.lstat(asm.at('out')).st_mode), mode)
-            os.chmod(asm.at('out'), 0o600)
-            os.chmod(asm.at('other'), 0o600)
-            tally.same('new and old', (asm.get('out'), asm.get('other')), (FIVE, OLD))
-            os.remove(asm.at('other'))
-            os.remove(asm.at('out'))
+            for name, data in ('out', FIVE), ('other', OLD):
+                os.chmod(asm.at(name), 0o600)
+                tally.same(name, asm.get(name), data)
+                os.remove(asm.at(name))
     for mask in (0o022, 0o027, 0o077, 0o000):
-        tally.same(('a new file', oct(mask)), asm.run('five.lup', '-o', 'out', umask=mask), (0, '', ''))
-        tally.same(('its mode', oct(mask)), stat.S_IMODE(os.lstat(asm.at('out')).st_mode), 0o666 & ~mask)
+        with tally.case(('a new file', oct(mask))):
+            tally.same('done', asm.run('five.lup', '-o', 'out', umask=mask), DONE)
+            tally.same('its mode', stat.S_IMODE(os.lstat(asm.at('out')).st_mode), 0o666 & ~mask)
         os.remove(asm.at('out'))
     name = 'n' * 255
-    tally.same('the longest name', (asm.run('five.lup', '-o', name), asm.get(name)), ((0, '', ''), FIVE))
+    tally.same('the longest name', (asm.run('five.lup', '-o', name), asm.get(name)), (DONE, FIVE))
     tally.same('nothing beside them', sorted(os.listdir(asm.folder)), ['five.lup', 'five.plan', name, 'old.plan'])
 
 
-# Runs a program whose calls of the system are told, or fail, or meet a signal. POINT: the call; ACT: told, the name of
-# an error, or of a signal that comes before the call (of open: after it, as there is no file before).
+# Runs a program whose calls of the system on a file that it makes are told, or fail, or meet a signal. POINT: the call;
+# ACT: told, the name of an error, or of a signal that comes before the call (of open after it: then there is a file).
 DRIVER = '''
 import errno, os, runpy, signal, sys
 point, act, program, *words = sys.argv[1:]
-calls, files = [], {}
+calls, files = [], set()
 
 def acts():
     if act.startswith('SIG'):
@@ -484,23 +547,24 @@ def acts():
 
 def wrap(name):
     real = getattr(os, name)
+    late = name == 'open' and act.startswith('SIG')
+
     def call(*given, **more):
-        mine = name != 'open' or given[1] & os.O_CREAT
-        if not mine or name in ('write', 'close', 'fsync', 'fchmod') and given[0] not in files:
+        if name == 'open' and not given[1] & os.O_CREAT or isinstance(given[0], int) and given[0] not in files:
             return real(*given, **more)
-        if name == point and not (name == 'open' and act.startswith('SIG')):
+        if name == point and not late:
             acts()
         result = real(*given, **more)
         calls.append(name)
         if name == 'open':
-            files[result] = given[0]
-            calls.append(os.path.dirname(given[0]))
-            if point == 'open' and act.startswith('SIG'):
-                acts()
+            files.add(result)
+            calls.append(f'{os.path.dirname(given[0])}:{os.fstat(result).st_mode & 0o7777:o}')
+        if name == point and late:
+            acts()
         return result
     setattr(os, name, call)
 
-for name in 'open write fchmod fsync close replace rename remove unlink link truncate'.split():
+for name in 'open write fchmod fsync close replace rename remove unlink link truncate ftruncate'.split():
     wrap(name)
 sys.argv[:] = [program, *words]
 try:
@@ -517,31 +581,34 @@ def driven(point, act):
 
 
 def test_failures(tally, asm):
-    """Where a step fails, the file stays, and nothing is left beside it; so where there was no file."""
+    """Where a step fails the file stays, and nothing is left beside it; so where there was no file."""
     asm.put_all()
     before = asm.seen()
     for step in STEPS:
         for number in (errno.ENOSPC, errno.EIO):
-            for call in (('five.lup', '-o', 'old.plan'), ('--back', 'five.plan', '-o', 'old.plan'), ('five.lup', '-o', 'new.plan')):
+            for call in (('five.lup', '-o', 'old.plan'), ('--back', 'five.plan', '-o', 'old.plan')):
                 got = asm.run(*call, **driven(step, errno.errorcode[number]))
-                wanted = failed(call[-1], f'it cannot be written: {os.strerror(number)}')
-                if call[-1] == 'new.plan' and step == 'fchmod':
-                    wanted = 0, '', ''
-                    os.remove(asm.at('new.plan'))
-                tally.same((step, number, call), (got, asm.seen() == before), (wanted, True))
-        status, text, errors = asm.run('five.lup', '-o', 'old.plan', **driven(step, 'MemoryError'))
-        tally.same((step, 'memory'), (status, text, errors.endswith('MemoryError\n'), asm.seen() == before), (1, '', True, True))
+                tally.same((step, number, call), (got, asm.seen() == before), (unwritten('old.plan', number), True))
+        if step != 'fchmod':
+            got = asm.run('five.lup', '-o', 'new.plan', **driven(step, 'ENOSPC'))
+            tally.same((step, 'new'), (got, asm.seen() == before), (unwritten('new.plan', errno.ENOSPC), True))
+        status, _, errors = asm.run('five.lup', '-o', 'old.plan', **driven(step, 'MemoryError'))
+        told = status, errors.endswith('MemoryError\n'), asm.seen() == before
+        tally.same((step, 'no memory'), told, (1, True, True))
 
 
 def test_order(tally, asm):
-    """The temporary file stands in the file's folder, is whole and on the disk before it gets the name; nothing else is touched."""
+    """The temporary file stands in the same folder and is on the disk before it gets the name; no other is touched."""
     asm.put_all()
     os.mkdir(asm.at('folder'))
-    for name, steps in (('old.plan', ['open', '', *STEPS[1:]]), ('new.plan', ['open', '', 'write', 'fsync', 'close', 'replace']),
-                        ('folder/new.plan', ['open', 'folder', 'write', 'fsync', 'close', 'replace'])):
-        tally.same((name, 'steps'), asm.run('five.lup', '-o', name, **driven('', 'told')), (0, '', ' '.join(steps) + '\n'))
-        tally.same((name, 'its bytes'), asm.get(name), FIVE)
-    tally.same('standard output', asm.run('five.lup', '-o', '-', **driven('', 'told')), (0, FIVE.decode('latin-1'), '\n'))
+    os.chmod(asm.at('old.plan'), 0o604)
+    new = 'write fsync close replace'
+    for name, steps in (('old.plan', 'open :604 write fchmod fsync close replace'), ('new.plan', f'open :644 {new}'),
+                        ('folder/new.plan', f'open folder:644 {new}')):
+        with tally.case(name):
+            tally.same('steps', asm.run('five.lup', '-o', name, umask=0o022, **driven('', 'told')), (0, '', steps + '\n'))
+            tally.same('its bytes', asm.get(name), FIVE)
+    tally.same('standard output', asm.run('five.lup', '-o', '-', **driven('', 'told')), (0, PACKED, '\n'))
     tally.same('--check', asm.run('five.lup', '--check', '-o', 'old.plan', **driven('', 'told')), (0, '', '\n'))
 
 
@@ -554,39 +621,48 @@ def test_full(tally, asm):
     asm.put_all()
     before = asm.seen()
     for call in (('five.lup', '-o', 'old.plan'), ('five.lup', '-o', 'new.plan'), ('--back', 'five.plan', '-o', 'old.plan')):
-        wanted = failed(call[-1], 'it cannot be written: File too large')
         got = asm.run(*call, preexec_fn=short_files)
-        tally.same((call, 'full'), (got, asm.seen() == before), (wanted, True))
+        tally.same((call, 'full'), (got, asm.seen() == before), (unwritten(call[-1], errno.EFBIG), True))
     with tempfile.TemporaryFile() as file:
         for call in (('five.lup', '-o', '-'), ('--back', 'five.plan')):
-            tally.same((call, 'full'), asm.run(*call, stdout=file, preexec_fn=short_files), failed('standard output', 'it cannot be written: File too large'))
+            got = asm.run(*call, stdout=file, preexec_fn=short_files)
+            tally.same((call, 'full'), got, unwritten('standard output', errno.EFBIG))
+
+
+# Takes the first names that the temporary file of this process would have.
+TAKEN = '''
+import os, sys
+for k in range(int(sys.argv[1])):
+    os.symlink('victim', f'.lupasm-{os.getpid()}-{k}.tmp')
+os.execv(sys.executable, [sys.executable, *sys.argv[2:]])
+'''
 
 
 def test_taken(tally, asm):
     """A name that the temporary file would have is left to what has it."""
     asm.put_all()
     asm.put('victim', OLD)
-    take = 'import os, sys\nfor k in range(int(sys.argv[1])): os.symlink("victim", f".lupasm-{os.getpid()}-{k}.tmp")\nos.execv(sys.executable, [sys.executable, *sys.argv[2:]])'
-    for count, wanted in ((1, (0, '', '')), (99, (0, '', '')), (100, failed('old.plan', 'it cannot be written: File exists'))):
+    for count, wanted in ((1, DONE), (99, DONE), (100, unwritten('old.plan', errno.EEXIST))):
         with tally.case(count):
             asm.put('old.plan', OLD)
-            tally.same('answer', asm.run('five.lup', '-o', 'old.plan', before=('-c', take, str(count))), wanted)
+            tally.same('answer', asm.run('five.lup', '-o', 'old.plan', before=('-c', TAKEN, str(count))), wanted)
             left = [name for name in os.listdir(asm.folder) if name.endswith('.tmp')]
-            tally.same('what had the names', (len(left), all(os.path.islink(asm.at(name)) for name in left)), (count, True))
+            tally.same('what had the names', [os.path.islink(asm.at(name)) for name in left], [True] * count)
             tally.same('the files', (asm.get('victim'), asm.get('old.plan')), (OLD, OLD if wanted[0] else FIVE))
             for name in left:
                 os.remove(asm.at(name))
 
 
 def test_signals(tally, asm):
-    """A signal that comes at any step of the writing ends the program, when the file is there and nothing beside it."""
+    """A signal at any step of the writing ends the program when the file is there and nothing beside it."""
     asm.put_all()
     names = sorted(os.listdir(asm.folder))
     for name in ('SIGINT', 'SIGTERM', 'SIGHUP'):
         for step in STEPS:
             with tally.case((name, step)):
                 asm.put('old.plan', OLD)
-                tally.same('its end', asm.run('five.lup', '-o', 'old.plan', **driven(step, name)), (-getattr(signal, name), '', ''))
+                got = asm.run('five.lup', '-o', 'old.plan', **driven(step, name))
+                tally.same('its end', got, (-getattr(signal, name), '', ''))
                 tally.same('what is there', (sorted(os.listdir(asm.folder)), asm.get('old.plan')), (names, FIVE))
 
 
@@ -595,27 +671,25 @@ def test_waiting(tally, asm):
     asm.put_all()
     before = asm.seen()
     for number in (signal.SIGINT, signal.SIGTERM):
-        process = subprocess.Popen([sys.executable, '-B', asm.path, '-', '-o', 'old.plan'], cwd=asm.folder, stdin=subprocess.PIPE, stdout=subprocess.PIPE, stderr=subprocess.PIPE)
-        process.stdin.write(TEXT * (1 << 16))      # more than a pipe holds: it is reading
-        process.send_signal(number)
-        process.wait(timeout=60)
-        told = process.stdout.read(), process.stderr.read()
-        process.stdin.close()
-        process.stdout.close()
-        process.stderr.close()
-        tally.same((number, 'waiting'), (process.returncode, told, asm.seen() == before), (-number, (b'', b''), True))
+        with asm.start('-', '-o', 'old.plan') as process:
+            data = memoryview(TEXT * (1 << 16))     # more than a pipe holds, so it is reading
+            while data:
+                data = data[process.stdin.write(data):]
+            process.send_signal(number)
+            process.wait(timeout=60)
+            told = process.stdout.read() + process.stderr.read()
+        tally.same((number, 'waiting'), (process.returncode, told, asm.seen() == before), (-number, b'', True))
 
 
 def test_help(tally, asm):
     for word in ('--help', '-h'):
         status, text, errors = asm.run(word)
         with tally.case(word):
-            tally.same((word, 'status'), (status, errors), (0, ''))
+            tally.same('status', (status, errors), (0, ''))
             for part in ('lupasm.py TEXT -o PLAN', '--back PLAN', '--check', 'Exit status: 0 done;', *lupasm.FORMS):
-                tally.holds((word, part), part in text)
+                tally.holds(part, part in text)
     for name in ('small.lup', 'bay.lup'):
-        path = os.path.join(ROOT, 'demo', name)
-        tally.same(('--check', name), asm.run('--check', path), (0, '', ''))
+        tally.same(('--check', name), asm.run('--check', os.path.join(ROOT, 'demo', name)), DONE)
 
 
 def test_example(tally):
@@ -630,14 +704,19 @@ def test_example(tally):
 
 
 def main():
+    # where this runs in the background some signals are ignored, and programs that it runs would ignore them too
+    for number in (signal.SIGINT, signal.SIGTERM, signal.SIGHUP):
+        signal.signal(number, signal.SIG_DFL)
+    signal.pthread_sigmask(signal.SIG_SETMASK, ())
     count = int(sys.argv[1]) if len(sys.argv) > 1 else 1000
     rng, tally = Random(int(sys.argv[2]) if len(sys.argv) > 2 else 3), Cases()
     test_lines(tally)
     test_ranks(tally)
     test_plans(tally, rng, count)
     test_damage(tally, rng, count)
-    for test in (test_program, test_messages, test_standard, test_check, test_back, test_library, test_long, test_parts, test_outputs,
-                 test_kept, test_failures, test_full, test_order, test_taken, test_signals, test_waiting, test_help):
+    for test in (test_program, test_messages, test_standard, test_check, test_back, test_library, test_long, test_parts,
+                 test_outputs, test_kept, test_failures, test_full, test_order, test_taken, test_signals, test_waiting,
+                 test_help):
         with tempfile.TemporaryDirectory() as here:
             test(tally, Assembler(PROGRAM, here))
     test_example(tally)
