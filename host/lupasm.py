@@ -16,8 +16,9 @@ written a word an axis, as 3x4, and - where there are no axes; a shape has no 0.
     a    = sum wind 0x1             greatest wind 0x1      flag 1 gathers
     a    = node 6 1=0 9=5 13=1      an operation and its words, for what no other line can say
 
-All rows but the shape of param and reshape have a word for each axis of the source. Nothing else is checked of a
-plan: `lup check` does. --back unpacks by the library, build/liblupetzarin.so or what LUPETZARIN_LIBRARY names.
+All rows but the shapes of param and reshape have a word for each axis of the source. Nothing else is checked
+of a plan: `lup check` does. --back unpacks by the library, which is build/liblupetzarin.so or what
+LUPETZARIN_LIBRARY names.
 """
 import argparse
 import ctypes
@@ -40,7 +41,7 @@ A, B = tuple(range(9, 13)), tuple(range(13, 17))
 USED = ((4, 5), (4, 5, 6, 7, 8, *A), *[(1, *A)] * 4, *[(1, *A, *B)] * 2, (1, 4), *[(1, 2)] * 9, (1, 2, 3),
         (1, 5, *A), (1, 6))
 
-# what follows the operation's name, in order; `shape` has axes of its own, other rows those of the first source
+# what follows the operation's name, in order; a `shape` has axes of its own, other rows have those of the source
 FORMS = {
     'const': (0, 'type number'),
     'param': (1, 'type limits shape device'),
@@ -83,7 +84,8 @@ class Refused(Exception):
     """A refusal of the library."""
 
     def __init__(self, number, place):
-        super().__init__(f'refused {number} at byte {place}: {RULES.get(number, "a rule that is not known here")}')
+        rule = RULES.get(number, 'a rule that this program does not know')
+        super().__init__(f'refused {number} at byte {place}: {rule}')
         self.number, self.place = number, place
 
 
@@ -243,7 +245,8 @@ def text_of(data):
     try:
         return data.decode('utf-8')
     except UnicodeDecodeError as error:
-        raise TextError(f'byte {data[error.start]:02X} is no UTF-8', data.count(b'\n', 0, error.start) + 1) from None
+        line = data.count(b'\n', 0, error.start) + 1
+        raise TextError(f'byte {data[error.start]:02X} is no UTF-8', line) from None
 
 
 def number_bytes(number):
@@ -276,7 +279,8 @@ class Answer(ctypes.Structure):
 
 def unpacked(data):
     """The table of packed bytes, by the library."""
-    beside = os.path.join(os.path.dirname(os.path.dirname(os.path.abspath(__file__))), 'build', 'liblupetzarin.so')
+    root = os.path.dirname(os.path.dirname(os.path.abspath(__file__)))
+    beside = os.path.join(root, 'build', 'liblupetzarin.so')
     try:
         call = ctypes.CDLL(os.environ.get('LUPETZARIN_LIBRARY', beside)).lup_unpack
     except (OSError, AttributeError) as error:
@@ -429,8 +433,8 @@ def write_temporary(descriptor, data, mode):
 
 
 def write_whole(name, data, mode):
-    """All of it under its name, or nothing: a temporary file beside it gets the name, with this mode, or with that of
-    any new file. A signal that would leave the temporary file waits until it is gone."""
+    """All of it under its name, or nothing: a temporary file beside it gets the name, with this mode, or with that
+    of any new file. A signal that would leave the temporary file waits until it is gone."""
     signals = signal.pthread_sigmask(signal.SIG_BLOCK, HELD)
     try:
         temporary, descriptor = open_temporary(os.path.dirname(name), 0o666 if mode is None else mode & 0o777)
@@ -463,9 +467,10 @@ class Parser(argparse.ArgumentParser):
 
 def asked_of(arguments):
     parser = Parser(
-        prog='lupasm.py', usage='lupasm.py TEXT -o PLAN [--check]\n       lupasm.py --back PLAN [-o TEXT] [--check]',
-        description=__doc__, formatter_class=argparse.RawDescriptionHelpFormatter, allow_abbrev=False,
-        epilog='A file is written whole or not at all, never over the one that is read or over what is no plain file.\n'
+        prog='lupasm.py', allow_abbrev=False, formatter_class=argparse.RawDescriptionHelpFormatter,
+        usage='lupasm.py TEXT -o PLAN [--check]\n       lupasm.py --back PLAN [-o TEXT] [--check]',
+        description=__doc__,
+        epilog='A file is written whole or not at all, never over the one that is read or what is no plain file.\n'
                'Exit status: 0 done; 1 --back: refused by the library, with number, place and rule;\n'
                '2 misuse, text that is no plan, or a file that cannot be read or written.')
     parser.add_argument('source', metavar='TEXT, PLAN', help='the file to read; - is standard input')

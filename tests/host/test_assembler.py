@@ -62,14 +62,17 @@ RANKED = (
     ('node 20 1=0', 2), ('node 4 1=0 9=12', 1))
 # a text, and what the message says of it
 WRONG = (
-    *((f'{W}v = {line}', f"line 2: '{row}' is a row of rank {rank}, and the source has rank 2") for line, row, rank in RANKS),
+    *((f'{W}v = {line}', f"line 2: '{row}' is a row of rank {rank}, and the source has rank 2")
+      for line, row, rank in RANKS),
     ('w = param i16 0..5 0 device 1', "'0' has an extent of 0"),
     ('w = param i16 0..5 3x0 device 1', "'3x0' has an extent of 0"),
     (W + 'v = reshape w 12x0', "line 2: '12x0' has an extent of 0"),
     (W + 'v = pad w 0x5 at 0x0', "'0x5' has an extent of 0"), (W + 'v = expand w 3x0', "'3x0' has an extent of 0"),
-    (W + 'v = shrink w 3x0 at 0x0', "'3x0' has an extent of 0"), ('w = const i16 ' + '9' * 5000, '999 cannot be packed'),
+    (W + 'v = shrink w 3x0 at 0x0', "'3x0' has an extent of 0"),
+    ('w = const i16 ' + '9' * 5000, '999 cannot be packed'),
     ('w = const i32 -17179869185', '-17179869185 cannot be packed'),
-    ('w = node 0 \u00b2=3', 'operation 0 has the words 4, 5'), ('w = node 0 \u0664=3', 'operation 0 has the words 4, 5'),
+    ('w = node 0 \u00b2=3', 'operation 0 has the words 4, 5'),
+    ('w = node 0 \u0664=3', 'operation 0 has the words 4, 5'),
     ('', 'there is no node'), ('# nothing\n\n', 'there is no node'), ('w', 'line 1: a line is'), ('\nw = const', 'line 2: a type is missing'),
     ('w = const i16', 'a number is missing'), ('w = const i17 5', "'i17' is no type"), ('w = const i16 five', "'five' is no whole number"),
     ('w = const i16 5 6', "'6' is left over"), ('w = cinst i16 5', "'cinst' is no operation"), ('w = load v device 1', "no node before this one is called 'v'"),
@@ -381,8 +384,8 @@ def test_library(tally, asm):
     with open(os.path.join(ROOT, 'build', 'liblupetzarin.so'), 'rb') as file:
         asm.put('other.so', file.read())
     none = 2, '', 'lupasm.py: the library cannot be loaded: '
-    for library, wanted in (
-            (asm.at('other.so'), (0, BACK, '')), (asm.at('none.so'), none), (asm.at('five.lup'), none), ('libc.so.6', none)):
+    for library, wanted in ((asm.at('other.so'), (0, BACK, '')), (asm.at('none.so'), none), (asm.at('five.lup'), none),
+                            ('libc.so.6', none)):
         environment = {**os.environ, 'LUPETZARIN_LIBRARY': library}
         with tally.case(library):
             status, text, errors = asm.run('--back', 'five.plan', env=environment)
@@ -476,9 +479,9 @@ def test_outputs(tally, asm):
     os.mkdir(asm.at('folder'))
     os.mkfifo(asm.at('pipe'))
     make_device(asm.at('device'))
-    for name, link in (
-            ('.', 'here'), ('old.plan', 'link'), ('nothing', 'dangling'), ('ring', 'ring'), ('device', 'device-link'),
-            ('five.lup', 'soft-lup'), ('soft-lup', 'softer-lup'), ('five.plan', 'soft-plan'), ('soft-plan', 'softer-plan')):
+    links = {'here': '.', 'link': 'old.plan', 'dangling': 'nothing', 'ring': 'ring', 'device-link': 'device',
+             'soft-lup': 'five.lup', 'softer-lup': 'soft-lup', 'soft-plan': 'five.plan', 'softer-plan': 'soft-plan'}
+    for link, name in links.items():
         os.symlink(name, asm.at(link))
     os.link(asm.at('five.lup'), asm.at('hard-lup'))
     os.link(asm.at('five.plan'), asm.at('hard-plan'))
@@ -491,13 +494,14 @@ def test_outputs(tally, asm):
 
     for words, kind in ((), 'lup'), (('--back',), 'plan'):
         source = f'five.{kind}'
-        links = f'hard-{kind}', f'soft-{kind}', f'softer-{kind}', f'here/soft-{kind}'
-        for name in (source, f'./{source}', f'folder/../{source}', f'here/{source}', asm.at(source), *links):
+        others = f'hard-{kind}', f'soft-{kind}', f'softer-{kind}', f'here/soft-{kind}'
+        for name in (source, f'./{source}', f'folder/../{source}', f'here/{source}', asm.at(source), *others):
             refuses(failed(name, APART), *words, source, '-o', name)
-        for name in (source, *links):
+        for name in (source, *others):
             with open(asm.at(source), 'rb') as file:
                 refuses(failed(name, APART), *words, '-', '-o', name, stdin=file)
-        for name in ('folder', 'folder/', '.', 'link', 'dangling', 'pipe', 'socket', 'device', 'device-link', 'here/device'):
+        for name in ('folder', 'folder/', '.', 'link', 'dangling', 'pipe', 'socket', 'device', 'device-link',
+                     'here/device'):
             refuses(failed(name, PLAIN), *words, source, '-o', name)
         refuses(unwritten('ring', errno.ELOOP), *words, source, '-o', 'ring')
     tally.same('a link to the text is read', asm.run('soft-lup', '-o', 'folder/five.lup'), DONE)
@@ -506,7 +510,7 @@ def test_outputs(tally, asm):
 
 
 def test_kept(tally, asm):
-    """The mode of a file that is replaced is kept, its other names keep what it held; a new file has the mode of any."""
+    """A file that is replaced: its mode is kept, and its other names keep what it held. The mode of a new file."""
     asm.put_all()
     for mode in (0o644, 0o600, 0o666, 0o755, 0o444, 0o640, 0o000, 0o4755):
         with tally.case(oct(mode)):
@@ -598,7 +602,7 @@ def test_failures(tally, asm):
 
 
 def test_order(tally, asm):
-    """The temporary file stands in the same folder and is on the disk before it gets the name; no other is touched."""
+    """The temporary file stands in the same folder and is on the disk before it gets the name."""
     asm.put_all()
     os.mkdir(asm.at('folder'))
     os.chmod(asm.at('old.plan'), 0o604)
@@ -606,7 +610,8 @@ def test_order(tally, asm):
     for name, steps in (('old.plan', 'open :604 write fchmod fsync close replace'), ('new.plan', f'open :644 {new}'),
                         ('folder/new.plan', f'open folder:644 {new}')):
         with tally.case(name):
-            tally.same('steps', asm.run('five.lup', '-o', name, umask=0o022, **driven('', 'told')), (0, '', steps + '\n'))
+            got = asm.run('five.lup', '-o', name, umask=0o022, **driven('', 'told'))
+            tally.same('steps', got, (0, '', steps + '\n'))
             tally.same('its bytes', asm.get(name), FIVE)
     tally.same('standard output', asm.run('five.lup', '-o', '-', **driven('', 'told')), (0, PACKED, '\n'))
     tally.same('--check', asm.run('five.lup', '--check', '-o', 'old.plan', **driven('', 'told')), (0, '', '\n'))
@@ -620,7 +625,8 @@ def test_full(tally, asm):
     """Files end at three bytes, so that the first writing is done in part."""
     asm.put_all()
     before = asm.seen()
-    for call in (('five.lup', '-o', 'old.plan'), ('five.lup', '-o', 'new.plan'), ('--back', 'five.plan', '-o', 'old.plan')):
+    for call in (('five.lup', '-o', 'old.plan'), ('five.lup', '-o', 'new.plan'),
+                 ('--back', 'five.plan', '-o', 'old.plan')):
         got = asm.run(*call, preexec_fn=short_files)
         tally.same((call, 'full'), (got, asm.seen() == before), (unwritten(call[-1], errno.EFBIG), True))
     with tempfile.TemporaryFile() as file:
