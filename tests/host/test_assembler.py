@@ -710,7 +710,8 @@ def test_example(tally):
 
 
 def main():
-    # where this runs in the background some signals are ignored, and programs that it runs would ignore them too
+    # programs that this runs would have these of it: signals that are ignored in the background, Python's buffers
+    os.environ.pop('PYTHONUNBUFFERED', None)
     for number in (signal.SIGINT, signal.SIGTERM, signal.SIGHUP):
         signal.signal(number, signal.SIG_DFL)
     signal.pthread_sigmask(signal.SIG_SETMASK, ())
