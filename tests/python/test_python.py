@@ -1,25 +1,23 @@
 #!/usr/bin/env python3
-"""The Python module against the independent model, with numpy and without it; a case is the same with both. To be run by a Python that has
-numpy: Debian's python3-numpy is seen by /usr/bin/python3.
+"""The Python module against the independent model, with numpy and without it; a case is the same with both. To be
+run by a Python that has numpy: Debian's python3-numpy is seen by /usr/bin/python3.
 
 usage: test_python.py [COUNT] [SEED]     last line: 'N passed, 0 failed'
 """
 
 import concurrent.futures
 import copy
-import ctypes
-import doctest
 import importlib
 import importlib.util
 import inspect
 import multiprocessing
 import os
 import pickle
+import py_compile
 import re
 import subprocess
 import sys
 import tempfile
-import threading
 from array import array
 from contextlib import contextmanager
 from math import prod
@@ -116,7 +114,8 @@ def test_result(tally, lup, got, records, wanted_values, wanted_flags, gaps):
             tally.same('the shape of a field', field.shape, record.extents)
             tally.same('a field', field.ravel().tolist(), cells)
             filled = [cell if cell is not None else lup.FILL_VALUE for cell in cells]
-            tally.same('a field filled', (field.filled().ravel().tolist(), numpy.asarray(field).ravel().tolist()), (filled, filled))
+            tally.same('a field filled', field.filled().ravel().tolist(), filled)
+            tally.same('a field without its mask', numpy.asarray(field).ravel().tolist(), filled)
         first = part.stop
 
 
@@ -140,7 +139,8 @@ def test_run(tally, lup, rng, table, values, flags):
             tally.same('a run refused', (got, one), (tuple(answer[:2]),) * 2)
             continue
         test_result(tally, lup, got, records, wanted_values, wanted_flags, answer[2])
-        tally.same('the same by the table', (one.values.tolist(), one.flags.tolist(), one[2:]), (wanted_values, wanted_flags, got[2:]))
+        same = one.values.tolist(), one.flags.tolist(), one[2:]
+        tally.same('the same by the table', same, (wanted_values, wanted_flags, got[2:]))
 
 
 def test_plan(tally, lup, rng, table):
@@ -153,7 +153,8 @@ def test_plan(tally, lup, rng, table):
         tally.same('check', got if number else [tuple(record) for record in got], wanted)
         tally.same('unpack_check', told(lup, lup.unpack_check, data), (number, rest) if number else len(rest))
         plan = told(lup, lup.Plan, data)
-        tally.same('a Plan', plan if number else (plan.table.tolist(), list(plan.records)), (number, rest) if number else (table, wanted))
+        made = plan if number else (plan.table.tolist(), list(plan.records))
+        tally.same('a Plan', made, (number, rest) if number else (table, wanted))
 
 
 def test_examples(tally, lups, rng):
@@ -168,10 +169,10 @@ def test_examples(tally, lups, rng):
         with tally.case(example.name):
             for lup in lups:
                 with watching(tally, lup):
-                    tally.same(example.name, told(lup, lup.lookup, example.table, example.node, example.element), wanted)
+                    place = example.node, example.element
+                    tally.same(example.name, told(lup, lup.lookup, example.table, *place), wanted)
                     if not model.verdict(example.table)[0]:
-                        plan = lup.Plan.of_table(example.table)
-                        tally.same('by a Plan', told(lup, plan.lookup, example.node, example.element), wanted)
+                        tally.same('by a Plan', told(lup, lup.Plan.of_table(example.table).lookup, *place), wanted)
 
 
 def test_plans(tally, lups, rng, count):
@@ -185,7 +186,8 @@ def test_plans(tally, lups, rng, count):
 # ------------------------------------------------------------------ memory
 
 def test_forms(tally, lups):
-    """Every form of values, flags, tables and bytes, each alone: the library gets these numbers, and memory that the header allows."""
+    """Every form of values, flags, tables and bytes, each alone: the library gets these numbers, in memory that the
+    header allows."""
     values, flags = [7, -2 ** 63], [1, 0]
     for lup in lups:
         for which, numbers, code in ((0, SMALL, 'q'), (1, values, 'q'), (2, flags, 'B')):
@@ -197,13 +199,15 @@ def test_forms(tally, lups):
                     tally.same((name, which, 'handed over'), library.read, [SMALL, values, flags])
                     kept = form.tolist() if hasattr(form, 'tolist') else list(form)
                     tally.same((name, which, 'as it was'), sum(kept, []) if name == 'a column' else kept, numbers)
-        for name, form in {**forms(lup.numpy, cases.pack(SMALL), 'B'), 'bytes': cases.pack(SMALL), 'view': memoryview(cases.pack(SMALL))}.items():
+        data = cases.pack(SMALL)
+        for name, form in {**forms(lup.numpy, data, 'B'), 'bytes': data, 'view': memoryview(data)}.items():
             with watching(tally, lup):
                 tally.same((name, 'data'), (lup.unpack(form).tolist(), lup.unpack_check(form)), (SMALL, 2))
 
 
 def test_no_copy(tally, lups):
-    """Memory that is what the header asks for is handed over as it is, and no other; results are fresh and can be written."""
+    """Memory that is what the header asks for is handed over as it is, and no other; results are fresh and can be
+    written."""
     straight = {'numpy', 'array', 'read-only', 'a column', 'a subclass'}
     for lup in lups:
         plan = lup.Plan.of_table(SMALL)
@@ -213,7 +217,7 @@ def test_no_copy(tally, lups):
                 arguments[which] = form
                 with watching(tally, lup) as library:
                     result = plan.run(*arguments[1:])
-                at = form.buffer_info()[0] if isinstance(form, array) else form.ctypes.data if hasattr(form, 'ctypes') else None
+                at = form.buffer_info()[0] if isinstance(form, array) else getattr(form, 'ctypes', None) and form.ctypes.data
                 wanted = name in straight | ({'wider'} if code == 'q' else {'misaligned', 'another order'})
                 tally.same((name, which, 'no copy'), library.handed[which][1] == at, wanted)
                 result.values[0], result.flags[0] = 1, 1
@@ -237,13 +241,14 @@ def test_masks(tally, lup):
     """A masked cell is a gap whatever lies under it, in every layout; results are masked where they are gaps."""
     two = numpy.ma.array([7, 5], mask=[0, 1])
     run = lup.Plan.of_table(SMALL).run
-    for arguments in ((two,), (two, None), (two, [1, 0]), (two, numpy.array([True, False])), (two, array('B', [1, 0]))):
+    for given_flags in ((), (None,), ([1, 0],), (numpy.array([True, False]),), (array('B', [1, 0]),)):
+        arguments = two, *given_flags
         tally.same('a masked cell', run(*arguments).cells(1), [None, 7, None, None])
         tally.same('by the table', lup.run(SMALL, *arguments).flags.tolist(), [1, 0, 0, 1, 0, 0])
     tally.same('no mask', run(numpy.ma.array([7, 5])).cells(1), [None, 7, 5, None])
     tally.same('all masked', run(numpy.ma.masked_all(2, 'int64')).cells(1), [None] * 4)
-    tally.same('its hard mask', run(numpy.ma.array([7, 5], mask=[0, 1], hard_mask=True)).cells(1), [None, 7, None, None])
-    tally.same('a slice of a masked array', run(numpy.ma.array([1, 7, 2, 5], mask=[1, 0, 0, 1])[1::2]).cells(0), [7, None])
+    tally.same('a hard mask', run(numpy.ma.array([7, 5], mask=[0, 1], hard_mask=True)).cells(0), [7, None])
+    tally.same('a slice', run(numpy.ma.array([1, 7, 2, 5], mask=[1, 0, 0, 1])[1::2]).cells(0), [7, None])
     tally.same('the other byte order', run(two.astype('>i8')).cells(0), [7, None])
     tally.same('nothing of it changes', (two.tolist(), two.data.tolist()), ([7, None], [7, 5]))
     shaped = cases.param(0, 2, -9, 9, (2, 3))
@@ -258,45 +263,46 @@ def test_masks(tally, lup):
     tally.same('what lies under the mask', run(big).cells(1), [None, 7, None, None])
 
 
+NO_FLAGS = 'flags: none are given, and the values are no masked array: 1 is a known number, 0 a gap'
+MASKED_FLAGS = 'flags: this is a masked array, which is taken as the values of a run alone'
+NO_NUMBERS = 'values: whole numbers are wanted, and '
+# What values and flags are given, of a masked array of two; what is raised, and how its words begin.
 WRONG_MASKS = (
-    ('flags that disagree', lambda run, two: run(two, [1, 1]), 'ValueError', 'flags: flag 1 is 1, and that cell of the values is masked'),
-    ('flags that disagree', lambda run, two: run(two, [0, 0]), 'ValueError', 'flags: flag 0 is 0, and that cell of the values is not masked'),
-    ('flags that disagree', lambda run, two: run(two, [2, 0]), 'ValueError', 'flags: flag 0 is 2, and that cell of the values is not masked'),
-    ('too few flags', lambda run, two: run(two, [1]), 'ValueError', 'flags: 1 of them, and the masked array has 2 cells'),
-    ('no flags', lambda run, two: run([7, 5]), 'TypeError',
-     'flags: none are given, and the values are no masked array: 1 is a known number, 0 a gap'),
-    ('no flags', lambda run, two: run(numpy.array([7, 5])), 'TypeError',
-     'flags: none are given, and the values are no masked array: 1 is a known number, 0 a gap'),
-    ('masked flags', lambda run, two: run(numpy.array([7, 5]), numpy.ma.array([1, 0], mask=[0, 1])), 'TypeError',
-     'flags: this is a masked array, which is taken as the values of a run alone'),
-    ('masked flags', lambda run, two: run(two, numpy.ma.array([1, 0])), 'TypeError',
-     'flags: this is a masked array, which is taken as the values of a run alone'),
-    ('a masked array in a list', lambda run, two: run([7, numpy.ma.array(5, mask=True)], [1, 1]), 'TypeError',
-     'values: whole numbers are wanted, and item 1 is masked_array('),
-    ('a masked cell in a list', lambda run, two: run([7, two[1]], [1, 1]), 'TypeError',
-     'values: whole numbers are wanted, and item 1 is masked (MaskedConstant)'),
-    ('a masked cell in a list of flags', lambda run, two: run([7, 5], [1, numpy.ma.array(1, mask=True)]), 'TypeError', 'flags: '),
-    ('masked floats', lambda run, two: run(two.astype(float)), 'TypeError', 'values: whole numbers are wanted, and this array is of float64'),
-    ('masked records', lambda run, two: run(numpy.ma.masked_all(2, [('a', 'i8')])), 'TypeError', 'values: whole numbers are wanted'),
+    (lambda two: (two, [1, 1]), 'ValueError', 'flags: flag 1 is 1, and that cell of the values is masked'),
+    (lambda two: (two, [0, 0]), 'ValueError', 'flags: flag 0 is 0, and that cell of the values is not masked'),
+    (lambda two: (two, [2, 0]), 'ValueError', 'flags: flag 0 is 2, and that cell of the values is not masked'),
+    (lambda two: (two, [1]), 'ValueError', 'flags: 1 of them, and the masked array has 2 cells'),
+    (lambda two: ([7, 5],), 'TypeError', NO_FLAGS),
+    (lambda two: (numpy.array([7, 5]),), 'TypeError', NO_FLAGS),
+    (lambda two: (numpy.array([7, 5]), numpy.ma.array([1, 0], mask=[0, 1])), 'TypeError', MASKED_FLAGS),
+    (lambda two: (two, numpy.ma.array([1, 0])), 'TypeError', MASKED_FLAGS),
+    (lambda two: ([7, numpy.ma.array(5, mask=True)], [1, 1]), 'TypeError', NO_NUMBERS + 'item 1 is masked_array('),
+    (lambda two: ([7, two[1]], [1, 1]), 'TypeError', NO_NUMBERS + 'item 1 is masked (MaskedConstant)'),
+    (lambda two: ([7, 5], [1, numpy.ma.array(1, mask=True)]), 'TypeError', 'flags: whole numbers are wanted'),
+    (lambda two: (two.astype(float),), 'TypeError', NO_NUMBERS + 'this array is of float64'),
+    (lambda two: (numpy.ma.masked_all(2, [('a', 'i8')]),), 'TypeError', NO_NUMBERS + 'this array is of ['),
 )
 
 
 def test_wrong_masks(tally, lup):
     run, two = lup.Plan.of_table(SMALL).run, numpy.ma.array([7, 5], mask=[0, 1])
-    for what, call, kind, message in WRONG_MASKS:
-        got = words(call, run, two)
-        tally.same(what, (got[0], got[1][:len(message)]), (kind, message))
+    for turn, (inputs, kind, message) in enumerate(WRONG_MASKS):
+        got = words(run, *inputs(two))
+        tally.same(('a wrong mask', turn), (got[0], got[1][:len(message)]), (kind, message))
     table, data = numpy.ma.array(SMALL), numpy.ma.array(list(cases.pack(SMALL)), 'uint8')
-    for call, *arguments in ((lup.check, table), (lup.run, table, [7, 5], [1, 1]), (lup.lookup, table, 0, 0), (lup.Plan.of_table, table),
-                             (lup.unpack, data), (lup.unpack_check, data), (lup.Plan, data), (lup.lookup, SMALL, 0, numpy.ma.array(1, mask=True))):
+    calls = ((lup.check, table), (lup.run, table, [7, 5], [1, 1]), (lup.lookup, table, 0, 0), (lup.Plan.of_table, table),
+             (lup.unpack, data), (lup.unpack_check, data), (lup.Plan, data),
+             (lup.lookup, SMALL, 0, numpy.ma.array(1, mask=True)))
+    for call, *arguments in calls:
         tally.same(('masked', call.__name__), words(call, *arguments)[0], 'TypeError')
 
 
 def test_fields(tally, lup):
     """A gap of a result stays none when it is filled, cut to fewer bits or stripped of its mask."""
     field = lup.run(SMALL, numpy.ma.array([7, 5], mask=[0, 1])).field(1)
-    tally.same('a field', (type(field), field.dtype, field.tolist()), (numpy.ma.MaskedArray, numpy.dtype('int64'), [None, 7, None, None]))
-    tally.same('its fill value', (int(field.fill_value), field.filled().tolist()[::2]), (lup.FILL_VALUE, [lup.FILL_VALUE] * 2))
+    tally.same('a field', (type(field), field.dtype.name, field.tolist()),
+               (numpy.ma.MaskedArray, 'int64', [None, 7, None, None]))
+    tally.same('its fill value', (field.fill_value, *field.filled()[[0, 2, 3]]), (lup.FILL_VALUE,) * 4)
     for low, high in model.TYPE_LIMITS.values():
         tally.same('is in no range', low <= lup.FILL_VALUE <= high, False)
     for dtype in ('int32', 'int16', 'int8', 'float64'):
@@ -319,46 +325,51 @@ def test_types(tally, lup):
     for dtype in ('i1', 'i2', '<i4', '>i4', '<i8', '>i8', 'u1', '<u2', '>u2', '<u4', '<u8', '>u8'):
         tally.same(('values', dtype), run(numpy.array([7, 5], dtype), flags).cells(0), [7, None])
         tally.same(('flags', dtype), run([7, 5], numpy.array(flags, dtype)).cells(0), [7, None])
-    refused = [numpy.array([7, 5], dtype) for dtype in ('f2', 'f4', '>f8', 'f8', 'c16', 'O', 'U1', 'S1', 'm8[s]', 'M8[s]')]
-    for wrong in (*refused, numpy.array([7, numpy.nan]), numpy.array([7, None]), numpy.zeros(2, 'V8'), numpy.zeros(2, 'i4, i4')):
-        message = f'values: whole numbers are wanted, and this array is of {wrong.dtype}'
-        tally.same(('values', wrong.dtype), words(run, wrong, flags), ('TypeError', message))
-        tally.same(('flags', wrong.dtype), words(run, [7, 5], wrong), ('TypeError', message.replace('values', 'flags')))
-        tally.same(('table', wrong.dtype), words(lup.check, wrong), ('TypeError', message.replace('values', 'table')))
+    refused = [numpy.zeros(2, dtype) for dtype in 'f2 f4 >f8 f8 c16 O U1 S1 m8[s] M8[s] V8 i4,i4'.split()]
+    for wrong in (*refused, numpy.array([7, numpy.nan]), numpy.array([7, None])):
+        message = f': whole numbers are wanted, and this array is of {wrong.dtype}'
+        tally.same(('values', wrong.dtype), words(run, wrong, flags), ('TypeError', 'values' + message))
+        tally.same(('flags', wrong.dtype), words(run, [7, 5], wrong), ('TypeError', 'flags' + message))
+        tally.same(('table', wrong.dtype), words(lup.check, wrong), ('TypeError', 'table' + message))
     large = numpy.array([7, 2 ** 63], 'uint64')
     message = 'values: position 1 holds 9223372036854775808, not -9223372036854775808..9223372036854775807'
     tally.same('uint64', words(run, large, [1, 1]), ('OverflowError', message))
     tally.same('uint64 in a masked array', words(run, numpy.ma.array(large)), ('OverflowError', message))
     tally.same('uint64 under a gap', run(large, flags).cells(0), [7, None])
-    tally.same('the greatest', words(run, numpy.array([7, 2 ** 63 - 1], 'uint64'), [1, 1])[1][-26:], '9223372036854775807, not -9..9'[-26:])
+    greatest = words(run, numpy.array([7, 2 ** 63 - 1], 'uint64'), [1, 1])
+    tally.holds('the greatest', greatest[1].endswith(': 9223372036854775807, not -9..9'), greatest)
     for number, dtype in ((256, 'int64'), (-1, 'int8'), (2 ** 64 - 1, 'uint64'), (-256, 'int16'), (257, '>u2')):
         wrong = words(run, [7, 5], numpy.array([1, number], dtype))
         tally.same(('a flag', number), wrong, ('OverflowError', f'flags: position 1 holds {number}, not 0..255'))
-    tally.same('bools for a number', words(run, numpy.array([True, False]), flags), ('TypeError',
-               'values: whole numbers are wanted, and this array is of bool (bools are taken as values where every PARAM is bool)'))
+    message = NO_NUMBERS + 'this array is of bool (bools are taken as values where every PARAM is bool)'
+    tally.same('bools for a number', words(run, numpy.array([True, False]), flags), ('TypeError', message))
     truth = cases.param(0, 0, 0, 1, (2,))
     tally.same('bools for a bool', lup.run(truth, numpy.array([True, False]), [1, 1]).cells(0), [1, 0])
     tally.same('masked bools', lup.run(truth, numpy.ma.array([True, True], mask=[0, 1])).cells(0), [1, None])
     mixed = truth + cases.param(1, 1, 0, 1, (1,))
     tally.same('bools for a bool and a u8', words(lup.run, mixed, numpy.ones(3, bool), [1] * 3)[0], 'TypeError')
-    tally.same("numpy's own numbers", run([numpy.int8(7), numpy.uint64(5)], [numpy.bool_(True), False]).cells(0), [7, None])
+    own = [numpy.int8(7), numpy.uint64(5)], [numpy.bool_(True), False]
+    tally.same("numpy's own numbers", run(*own).cells(0), [7, None])
 
 
 def test_sequences(tally, lups):
     """The same of lists and arrays, with numpy and without it."""
     for lup in lups:
         run = lup.Plan.of_table(SMALL).run
-        for wrong, shown in ((1.0, '1.0 (float)'), (float('nan'), 'nan (float)'), (None, 'None (NoneType)'), ('5', "'5' (str)"), ([5], '[5] (list)')):
-            message = f'values: whole numbers are wanted, and item 1 is {shown}'
+        for wrong in (1.0, float('nan'), None, '5', [5]):
+            shown = f'{wrong!r} ({type(wrong).__name__})'
+            message = NO_NUMBERS + 'item 1 is ' + shown
             tally.same(('values', shown), words(run, [7, wrong], [1, 0]), ('TypeError', message))
             tally.same(('flags', shown), words(run, [7, 5], [1, wrong])[0], 'TypeError')
-            tally.same(('a lookup', shown), words(lup.lookup, SMALL, 0, wrong), ('TypeError', f'element: a whole number is wanted, and this is {shown}'))
+            message = f'element: a whole number is wanted, and this is {shown}'
+            tally.same(('a lookup', shown), words(lup.lookup, SMALL, 0, wrong), ('TypeError', message))
         tally.same('an array of floats', words(run, array('d', [7, 5]), [1, 0])[0], 'TypeError')
-        tally.same('no sequence', words(run, 7, [1, 0]), ('TypeError', 'values: whole numbers are wanted, and this is 7 (int)'))
+        tally.same('no sequence', words(run, 7, [1, 0]), ('TypeError', NO_NUMBERS + 'this is 7 (int)'))
         tally.same('text', words(lup.unpack, '12')[0], 'TypeError')
         tally.same('a number of bytes', words(lup.unpack, 3)[0], 'TypeError')
-        for number, flag, message in ((2 ** 63, 1, 'values: item 1 is 9223372036854775808, not -9223372036854775808..9223372036854775807'),
-                                      (5, 256, 'flags: item 1 is 256, not 0..255'), (5, -1, 'flags: item 1 is -1, not 0..255')):
+        for number, flag, message in ((2 ** 63, 1, f'values: item 1 is {2 ** 63}, not {-2 ** 63}..{2 ** 63 - 1}'),
+                                      (5, 256, 'flags: item 1 is 256, not 0..255'),
+                                      (5, -1, 'flags: item 1 is -1, not 0..255')):
             tally.same(('too large', number, flag), words(run, [7, number], [1, flag]), ('OverflowError', message))
         tally.same('bytes are numbers each', run(b'\x07\x05', b'\x01\x00').cells(0), [7, None])
         tally.same('another type of array', run(array('h', [7, 5]), array('l', [1, 0])).cells(0), [7, None])
@@ -381,8 +392,9 @@ def test_rules(tally, lups):
     for lup in lups:
         tally.same('the words of lup', {number: said for number, (_, said) in lup.RULES.items()}, rules)
         tally.same('its words on rule 7', lup.ROWS, c_words(text, 'ROWS'))
-        tally.same('an unknown number', str(lup.Refused(99, 3)), 'refused 99: a rule that this module does not know')
-        tally.same('number and place alone', str(lup.Refused(8, 14)), 'refused 8 at node 14: shapes disagree, or over 1048576 elements')
+        for refusal, said in ((lup.Refused(99, 3), 'refused 99: a rule that this module does not know'),
+                              (lup.Refused(8, 14), 'refused 8 at node 14: shapes disagree, or over 1048576 elements')):
+            tally.same('number and place alone', str(refusal), said)
 
 
 def refused_plans(count, seed):
@@ -421,32 +433,35 @@ def test_plan_words(tally, lups):
 
 def test_run_words(tally, lups):
     """13, 15, 16 and 17 say what was found and what was wanted; 16 and 17 as lup does."""
-    table = cases.const(2, 3) + cases.param(0, 2, -9, 9, (2,)) + cases.param(1, 1, 5, 6, ()) + cases.param(2, 3, 0, 99, (2, 1, 2, 3))
+    table = cases.const(2, 3) + cases.param(0, 2, -9, 9, (2,)) + cases.param(1, 1, 5, 6, ())
+    table += cases.param(2, 3, 0, 99, (2, 1, 2, 3))
     values, count = [0, 0, 5] + [0] * 12, 15
     for lup in lups:
         plan = lup.Plan.of_table(table)
         for place in range(count):
             for wrong in (100, -10, 2 ** 63 - 1):
                 spoilt = values[:place] + [wrong] + values[place + 1:]
-                text = wording.position_text('x', ['f'] * 3, table, spoilt, place).removeprefix('lup: f: ').rstrip('\n')
-                wanted = text.replace(' of x, input', ', input')
+                text = wording.position_text('x', ['f'] * 3, table, spoilt, place)
+                wanted = text.removeprefix('lup: f: ').rstrip('\n').replace(' of x, input', ', input')
                 tally.same(('16', place), words(plan.run, spoilt, [1] * count), ('Refused', wanted))
                 wanted = re.sub('^refused 16(.*): known .*', r'refused 15\1: flag neither 0 nor 1: 2', wanted)
                 flags = [1] * place + [2] + [1] * (count - 1 - place)
                 tally.same(('15', place), words(plan.run, spoilt, flags), ('Refused', wanted))
         for given_values, given_flags in ((14, 15), (15, 16), (0, 0)):
-            wanted = f'refused 13: input length is not the PARAM total: {given_values} values and {given_flags} flags, not 15'
-            tally.same('13', words(plan.run, [0] * given_values, [0] * given_flags), ('Refused', wanted))
+            said = f'input length is not the PARAM total: {given_values} values and {given_flags} flags, not 15'
+            tally.same('13', words(plan.run, [0] * given_values, [0] * given_flags), ('Refused', 'refused 13: ' + said))
         for node, element in ((4, 0), (0, 1), (1, 2), (3, 12), (2 ** 64 - 1, 0), (2 ** 64, 0), (1, 2 ** 70)):
             wanted = wording.lookup_texts('x', table, node, element)[2].removeprefix('lup: x: ').rstrip('\n')
             tally.same(('17', node, element), words(plan.lookup, node, element), ('Refused', wanted))
             tally.same(('17', node, element), told(lup, lup.lookup, table, node, element), (17, 0))
-        for node, element, said in ((-1, 0, 'no node -1, the last is 3'), (1, -1, 'no element -1 in node 1 (PARAM), its last is 1')):
-            tally.same(said, words(plan.lookup, node, element), ('Refused', 'refused 17: lookup node or element not there: ' + said))
+        for node, element, said in ((-1, 0, 'no node -1, the last is 3'),
+                                    (1, -1, 'no element -1 in node 1 (PARAM), its last is 1')):
+            wanted = 'refused 17: lookup node or element not there: ' + said
+            tally.same(said, words(plan.lookup, node, element), ('Refused', wanted))
 
 
 def test_unpacking(tally, lups):
-    for data in (b'', bytes.fromhex('010004'), bytes.fromhex('8000'), bytes.fromhex('0115'), bytes.fromhex('0100040A00')):
+    for data in map(bytes.fromhex, ('', '010004', '8000', '0115', '0100040A00')):
         answer = model.unpack(data, [0] * 4352)
         with tally.case(('unpack', data.hex())):
             for lup in lups:
@@ -477,16 +492,18 @@ def test_pickling(tally, lups):
             except lup.Refused as error:
                 refusal = error
             refusal.add_note('a note')
-            said = 'refused 16 at element 1 (column 1) of PARAM 0 (node 0, input position 1): known number outside limits: 50, not -9..9'
+            said = ('refused 16 at element 1 (column 1) of PARAM 0 (node 0, input position 1): '
+                    'known number outside limits: 50, not -9..9')
             for twin in (refusal, *copies(refusal)):
                 tally.same('a refusal', (type(twin), twin.number, twin.place, str(twin), twin.args, twin.__notes__),
                            (lup.Refused, 16, 1, said, refusal.args, ['a note']))
             for twin in (plan, *copies(plan)):
-                tally.same('a plan', (type(twin), twin.table.tolist(), twin.records, twin.nodes), (lup.Plan, SMALL, plan.records, plan.nodes))
+                tally.same('a plan', (type(twin), twin.table.tolist(), twin.records, twin.nodes),
+                           (lup.Plan, SMALL, plan.records, plan.nodes))
                 tally.same('a run of it', twin.run([7, 5], [1, 0]).cells(1), [None, 7, None, None])
             result = plan.run([7, 5], [1, 0])
             for twin in copies(result):
-                tally.same('a result', (type(twin), twin.cells(1), twin[2:]), (lup.Result, [None, 7, None, None], result[2:]))
+                tally.same('a result', (type(twin), twin.cells(1), twin[2:]), (lup.Result, result.cells(1), result[2:]))
             for thing in (plan.records[1], plan.lookup(1, 1)):
                 for twin in copies(thing):
                     tally.same('a tuple', (type(twin), twin), (type(thing), thing))
@@ -499,10 +516,11 @@ def test_pool(tally):
         for inputs in (([7, 50], [1, 1]), ([7], [1]), ([7, 5], [1, 3])):
             here, there = words(in_child, SMALL, *inputs), words(pool.submit(in_child, SMALL, *inputs).result)
             tally.same(('refused', inputs), (here[0], there), ('Refused', here))
-            tally.same(('number and place', inputs), told(lup, pool.submit(in_child, SMALL, *inputs).result), told(lup, in_child, SMALL, *inputs))
+            here, there = told(lup, in_child, SMALL, *inputs), told(lup, pool.submit(in_child, SMALL, *inputs).result)
+            tally.same(('number and place', inputs), there, here)
         plan, two = lup.Plan.of_table(SMALL), numpy.ma.array([7, 5], mask=[0, 1])
         result = pool.submit(in_child, plan, two, None).result()
-        tally.same('a plan and a masked array', (type(result), result.field(1).tolist()), (lup.Result, [None, 7, None, None]))
+        tally.same('a plan and a masked array', result.field(1).tolist(), [None, 7, None, None])
 
 
 # ------------------------------------------------------------------- plans
@@ -514,19 +532,15 @@ def test_plan_object(tally, lups):
             plan = lup.Plan.of_table(table)
             table[0] = 99
             plan.table[0] = 98
-            tally.same('a Plan by itself', (plan.table.tolist(), plan.run([7, 5], [1, 0]).cells(1)), (SMALL, [None, 7, None, None]))
+            tally.same('a Plan by itself', (plan.table.tolist(), plan.run([7, 5], [1, 0]).cells(0)), (SMALL, [7, None]))
         tally.same('its sizes', (plan.inputs, plan.elements, plan.nodes, repr(plan)),
                    (2, 6, (slice(0, 2), slice(2, 6)), '<Plan of 2 nodes, 2 inputs and 6 elements>'))
         tally.same('a Plan of a Plan', lup.Plan.of_table(plan) is plan, True)
-        tally.same('the calls on a Plan', (lup.check(plan), lup.run(plan, [7, 5], [1, 0]).gaps, lup.lookup(plan, 1, 1), lup.lookup(plan, 1, 0)),
-                   (list(plan.records), 3, (0, 0), None))
-        found = []
-        threads = [threading.Thread(target=lambda k=k: found.append((k, [plan.run([k, 5], [1, 0]).cells(0) for _ in range(200)]))) for k in range(8)]
-        for thread in threads:
-            thread.start()
-        for thread in threads:
-            thread.join()
-        tally.same('threads', sorted(found), [(k, [[k, None]] * 200) for k in range(8)])
+        tally.same('check and run of a Plan', (lup.check(plan), lup.run(plan, [7, 5], [1, 0]).gaps), (list(plan.records), 3))
+        tally.same('lookup in a Plan', (lup.lookup(plan, 1, 1), lup.lookup(plan, 1, 0)), ((0, 0), None))
+        with concurrent.futures.ThreadPoolExecutor(8) as pool:
+            found = pool.map(lambda k: [plan.run([k, 5], [1, 0]).cells(0) for _ in range(200)], range(8))
+        tally.same('threads', list(found), [[[k, None]] * 200 for k in range(8)])
 
 
 def test_checked_once(tally, lups):
@@ -562,13 +576,14 @@ def best(call, repeats=100):
 
 
 def test_speed(tally, lup):
-    """A run of the demo's plan by a Plan against the library's call on memory that is there: the best of rounds in turn, as many as it takes
-    on a machine that is busy, 60 at most."""
+    """A run of the demo's plan by a Plan against the library's call on memory that is there: the best of rounds in
+    turn, as many as it takes on a machine that is busy, 60 at most."""
     table, values, flags = bay_inputs()
     plan = lup.Plan.of_table(table)
     result = plan.run(values, flags)
     words_held = numpy.array(table)
-    buffers = [part for memory in (words_held, values, flags, *result[:2]) for part in (memory.ctypes.data, memory.size)]
+    held = words_held, values, flags, *result[:2]
+    buffers = [part for memory in held for part in (memory.ctypes.data, memory.size)]
     call, both = lup._LIBRARY.lup_run, numpy.ma.array(values, mask=flags == 0)
     raw = own = veiled = float('inf')
     for rounds in range(60):
@@ -576,9 +591,10 @@ def test_speed(tally, lup):
         veiled = min(veiled, best(lambda: plan.run(both)))
         if rounds >= 5 and own <= SLOWER * raw:
             break
-    print(f'the demo\'s plan: {1e6 * raw:.1f} µs raw, {own / raw:.2f} times that by a Plan, {veiled / raw:.2f} with a mask')
+    print(f'a run of the demo: {1e6 * raw:.1f} µs, {own / raw:.2f} times that by a Plan, {veiled / raw:.2f} with a mask')
     tally.holds('at most 1.3 times', own <= SLOWER * raw, own / raw)
-    tally.same('the same fields', [plan.run(both).field(81).tolist(), result.gaps], [result.field(81).tolist(), plan.run(both).gaps])
+    other = plan.run(both)
+    tally.same('the same with a mask', (other.field(81).tolist(), other.gaps), (result.field(81).tolist(), result.gaps))
 
 
 # ---------------------------------------------------------------- documents
@@ -593,17 +609,16 @@ def test_hints(tally, lups):
                 if not inspect.isfunction(function) or function.__code__.co_filename != lup.__file__:
                     continue
                 hints = function.__annotations__
-                bare = [argument for argument in inspect.signature(function).parameters if argument not in ('self', 'cls', *hints)]
-                tally.same(('hints', name, label), (bare, 'return' in hints), ([], True))
+                arguments = {*inspect.signature(function).parameters, 'return'} - {'self', 'cls'}
+                tally.same(('hints', name, label), arguments - set(hints), set())
                 if not name.startswith('_') and not label.startswith('_'):
                     tally.holds(('a docstring', name, label), function.__doc__)
         for name in lup.__all__:
             thing = getattr(lup, name)
             tally.holds(('public', name), thing.__doc__ if callable(thing) else thing)
     with tempfile.TemporaryDirectory() as folder:
-        command = "import sys, py_compile; py_compile.compile(sys.argv[1], sys.argv[2], doraise=True)"
-        done = subprocess.run([sys.executable, '-W', 'error', '-c', command, lups[0].__file__, os.path.join(folder, 'lup.pyc')], check=False)
-    tally.same('compiled', done.returncode, 0)
+        made = os.path.join(folder, 'lup.pyc')
+        tally.same('compiled', py_compile.compile(lups[0].__file__, made, doraise=True), made)
 
 
 def readme_session():
@@ -627,17 +642,17 @@ def test_readme(tally):
     """README's session, typed as it is printed, in a folder with what a checkout has after make."""
     commands, text = readme_session()
     count = text.count('>>> ')
-    tally.same('the session', (len(commands) >= 2, count >= 6, commands[-1].endswith('/usr/bin/python3')), (True, True, True))
+    tally.holds('the session', len(commands) == 2 and count >= 6 and commands[-1].endswith('/usr/bin/python3'))
     with tempfile.TemporaryDirectory() as folder:
         for part in ('host', 'demo', 'python', 'build'):
             os.symlink(os.path.join(ROOT, part), os.path.join(folder, part))
         clean = {key: value for key, value in os.environ.items() if not key.startswith(('PYTHON', 'LUPETZARIN'))}
         clean['PYTHONDONTWRITEBYTECODE'] = '1'
+        how = {'cwd': folder, 'env': clean, 'capture_output': True, 'text': True, 'check': False}
         for command in commands[:-1]:
-            done = subprocess.run(['sh', '-c', command], cwd=folder, env=clean, capture_output=True, text=True, check=False)
+            done = subprocess.run(['sh', '-c', command], **how)
             tally.same(command, (done.returncode, done.stdout, done.stderr), (0, '', ''))
-        done = subprocess.run(['sh', '-c', commands[-1] + ' -c "$0"', SESSION], cwd=folder, env=clean, input=text, capture_output=True, text=True,
-                              check=False)
+        done = subprocess.run(['sh', '-c', commands[-1] + ' -c "$0"', SESSION], input=text, **how)
     tally.same('as printed', (done.stdout, done.stderr), (f'TestResults(failed=0, attempted={count})\n', ''))
 
 
@@ -647,16 +662,16 @@ def main():
     test_examples(tally, lups, rng)
     test_plans(tally, lups, rng, count)
     test_unpacking(tally, lups)
-    for what, test, arguments in (
-            ('every form of memory', test_forms, (lups,)), ('memory that is handed over', test_no_copy, (lups,)),
-            ('masks', test_masks, (lups[0],)), ('wrong masks', test_wrong_masks, (lups[0],)), ('fields', test_fields, (lups[0],)),
-            ('types', test_types, (lups[0],)), ('sequences', test_sequences, (lups,)), ('the words of rules', test_rules, (lups,)),
-            ('the words of plans', test_plan_words, (lups,)), ('the words of runs', test_run_words, (lups,)),
-            ('pickling', test_pickling, (lups,)), ('a process pool', test_pool, ()), ('plans', test_plan_object, (lups,)),
-            ('checked once', test_checked_once, (lups,)), ('speed', test_speed, (lups[0],)), ('hints', test_hints, (lups,)),
-            ('README', test_readme, ())):
-        with tally.case(what):
-            test(tally, *arguments)
+    for test in (test_forms, test_no_copy, test_sequences, test_rules, test_plan_words, test_run_words, test_pickling,
+                 test_plan_object, test_checked_once, test_hints):
+        with tally.case(test.__name__):
+            test(tally, lups)
+    for test in test_masks, test_wrong_masks, test_fields, test_types, test_speed:
+        with tally.case(test.__name__):
+            test(tally, lups[0])
+    for test in test_pool, test_readme:
+        with tally.case(test.__name__):
+            test(tally)
     tally.finish()
 
 

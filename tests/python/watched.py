@@ -6,8 +6,8 @@ from array import array
 from contextlib import contextmanager
 
 # Of each call: its buffers in order, 'q' for 64-bit words and 'B' for bytes, and which of them it writes.
-CALLS = {'lup_unpack': ('Bq', (1,)), 'lup_check': ('qq', (1,)), 'lup_unpack_check': ('B', ()), 'lup_run': ('qqBqB', (3, 4)),
-         'lup_lookup': ('q', ())}
+CALLS = {'lup_unpack': ('Bq', (1,)), 'lup_check': ('qq', (1,)), 'lup_unpack_check': ('B', ()),
+         'lup_run': ('qqBqB', (3, 4)), 'lup_lookup': ('q', ())}
 
 
 class Watched:
@@ -58,7 +58,7 @@ def forms(numpy, numbers, code):
     if not numpy:
         return given
     plain = numpy.array(list(numbers), 'int64' if code == 'q' else 'uint8')
-    size, count = plain.itemsize, len(plain)
+    count = len(plain)
     shifted = numpy.frombuffer(b'\x55' + plain.tobytes(), plain.dtype, offset=1)
     if code == 'q' and count:
         assert shifted.ctypes.data % 8 and not shifted.flags.aligned, 'these numbers should not be aligned'
@@ -67,9 +67,10 @@ def forms(numpy, numbers, code):
     fixed = plain.copy()
     fixed.flags.writeable = False
     return {**given, 'numpy': plain, 'numpy integers': list(plain), 'misaligned': shifted, 'every third': spread[::3],
-            'backwards': plain[::-1].copy()[::-1], 'read-only': fixed, 'another order': plain.astype(plain.dtype.newbyteorder()),
-            'a column': plain.reshape(count, 1), 'a field of a record': record_field(numpy, plain), 'a subclass': plain.view(numpy.memmap),
-            'wider': plain.astype('int64') if size == 1 else plain.astype('longlong')}
+            'backwards': plain[::-1].copy()[::-1], 'read-only': fixed,
+            'another order': plain.astype(plain.dtype.newbyteorder()), 'a column': plain.reshape(count, 1),
+            'a field of a record': record_field(numpy, plain), 'a subclass': plain.view(numpy.memmap),
+            'wider': plain.astype('int64' if code == 'B' else 'longlong')}
 
 
 def record_field(numpy, plain):
