@@ -195,7 +195,8 @@ _LIMITS = {'q': (-2 ** 63, 2 ** 63 - 1), 'B': (0, 255)}
 if numpy is not None:
     _TYPES = {'q': numpy.dtype(numpy.int64), 'B': numpy.dtype(numpy.uint8)}
     _WHOLE: tuple[type, ...] = (int, numpy.integer, numpy.bool_)
-    _EIGHT = _TYPES['q'].alignment == 8     # numpy's own flag says what the header asks for
+    # Whether numpy's own flag says what the header asks for; it does not of an empty array.
+    _EIGHT = _TYPES['q'].alignment == 8
 else:
     _WHOLE = (int,)
 
@@ -270,7 +271,8 @@ def _held(items: Numbers, code: str, name: str, known: Optional[Memory] = None, 
         held = _converted(items, code, name, known)
     else:
         flags = items.flags
-        fits = flags.c_contiguous and (flags.aligned if _EIGHT else items.ctypes.data % 8 == 0)
+        aligned = flags.aligned if _EIGHT and items.size else items.ctypes.data % 8 == 0
+        fits = flags.c_contiguous and aligned
         held = items if fits else items.copy(order='C')
     return held if held.ndim == 1 else held.reshape(-1)
 

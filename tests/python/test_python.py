@@ -199,6 +199,12 @@ def test_forms(tally, lups):
                     tally.same((name, which, 'handed over'), library.read, [SMALL, values, flags])
                     kept = form.tolist() if hasattr(form, 'tolist') else list(form)
                     tally.same((name, which, 'as it was'), sum(kept, []) if name == 'a column' else kept, numbers)
+        for which, code in ((0, 'q'), (1, 'B')):
+            for name, form in forms(lup.numpy, [], code).items():
+                arguments = [[], []]
+                arguments[which] = form
+                with watching(tally, lup):
+                    tally.same((name, which, 'empty'), lup.run(cases.const(2, 3), *arguments).cells(0), [3])
         data = cases.pack(SMALL)
         for name, form in {**forms(lup.numpy, data, 'B'), 'bytes': data, 'view': memoryview(data)}.items():
             with watching(tally, lup):
