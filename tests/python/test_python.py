@@ -1,6 +1,6 @@
 #!/usr/bin/env python3
 """The Python module against the independent model, with numpy and without it; a case is the same with both. To be
-run by a Python that has numpy: Debian's python3-numpy is seen by /usr/bin/python3.
+run by a Python that has numpy and distributed: Debian's are seen by /usr/bin/python3.
 
 usage: test_python.py [COUNT] [SEED]     last line: 'N passed, 0 failed'
 """
@@ -8,7 +8,6 @@ usage: test_python.py [COUNT] [SEED]     last line: 'N passed, 0 failed'
 import concurrent.futures
 import copy
 import importlib
-import importlib.util
 import inspect
 import multiprocessing
 import os
@@ -22,7 +21,6 @@ from array import array
 from contextlib import contextmanager
 from math import prod
 from random import Random
-from time import perf_counter
 
 sys.dont_write_bytecode = True
 ROOT = os.path.dirname(os.path.dirname(os.path.dirname(os.path.abspath(__file__))))
@@ -31,8 +29,6 @@ sys.path[:0] = [os.path.join(ROOT, part) for part in PARTS]
 
 import cases  # noqa: E402
 import lookup_examples  # noqa: E402
-import lupasm  # noqa: E402
-import make_bay  # noqa: E402
 import model  # noqa: E402
 import run_cases  # noqa: E402
 import run_examples  # noqa: E402
@@ -42,12 +38,12 @@ from watched import forms, watching  # noqa: E402
 
 try:
     import numpy
-except ImportError:
-    sys.exit('test_python.py: this Python has no numpy; Debian has it as python3-numpy, for /usr/bin/python3')
+    from distributed.protocol import pickle as protocol
+except ImportError as error:
+    sys.exit(f'test_python.py: {error}; tools/setup python3-numpy python3-distributed gets it for /usr/bin/python3')
 
 # README's example: two numbers, padded to four at 1.
 SMALL = cases.param(0, 2, -9, 9, (2,)) + cases.move(cases.PAD, 0, (4,), (1,))
-SLOWER = 1.3
 
 
 def modules():
@@ -481,11 +477,9 @@ def in_child(table, values, flags):
 
 def copies(thing):
     """What pickle and copy make of it, in every way."""
-    yield from (pickle.loads(pickle.dumps(thing, protocol)) for protocol in range(pickle.HIGHEST_PROTOCOL + 1))
+    yield from (pickle.loads(pickle.dumps(thing, number)) for number in range(pickle.HIGHEST_PROTOCOL + 1))
     yield from (copy.copy(thing), copy.deepcopy(thing))
-    if importlib.util.find_spec('distributed'):
-        protocol = importlib.import_module('distributed.protocol.pickle')
-        yield protocol.loads(protocol.dumps(thing))
+    yield protocol.loads(protocol.dumps(thing))
 
 
 def test_pickling(tally, lups):
@@ -561,48 +555,6 @@ def test_checked_once(tally, lups):
             tally.same('calls', made, ['lup_run', 'lup_lookup'])
 
 
-def bay_inputs():
-    """The demo's plan and its inputs, one strip missing."""
-    with open(os.path.join(ROOT, 'demo', 'bay.lup'), encoding='utf-8') as file:
-        table = lupasm.table_of(file.read())
-    strips = [value for k in range(make_bay.STRIPS) for value in make_bay.strip(k)]
-    flags = [int(k != make_bay.DEAD) for k in range(make_bay.STRIPS) for _ in range(make_bay.ROWS * make_bay.WIDTH)]
-    zones = [make_bay.zone_of(column) for _ in range(make_bay.ROWS) for column in range(make_bay.COLUMNS)]
-    return table, numpy.array(strips + zones), numpy.array(flags + [1] * len(zones), 'uint8')
-
-
-def best(call, repeats=100):
-    """The least seconds of a call."""
-    least = float('inf')
-    for _ in range(repeats):
-        start = perf_counter()
-        call()
-        least = min(least, perf_counter() - start)
-    return least
-
-
-def test_speed(tally, lup):
-    """A run of the demo's plan by a Plan against the library's call on memory that is there: the best of rounds in
-    turn, as many as it takes on a machine that is busy, 60 at most."""
-    table, values, flags = bay_inputs()
-    plan = lup.Plan.of_table(table)
-    result = plan.run(values, flags)
-    words_held = numpy.array(table)
-    held = words_held, values, flags, *result[:2]
-    buffers = [part for memory in held for part in (memory.ctypes.data, memory.size)]
-    call, both = lup._LIBRARY.lup_run, numpy.ma.array(values, mask=flags == 0)
-    raw = own = veiled = float('inf')
-    for rounds in range(60):
-        raw, own = min(raw, best(lambda: call(*buffers))), min(own, best(lambda: plan.run(values, flags)))
-        veiled = min(veiled, best(lambda: plan.run(both)))
-        if rounds >= 5 and own <= SLOWER * raw:
-            break
-    print(f'a run of the demo: {1e6 * raw:.1f} µs, {own / raw:.2f} times that by a Plan, {veiled / raw:.2f} with a mask')
-    tally.holds('at most 1.3 times', own <= SLOWER * raw, own / raw)
-    other = plan.run(both)
-    tally.same('the same with a mask', (other.field(81).tolist(), other.gaps), (result.field(81).tolist(), result.gaps))
-
-
 # ---------------------------------------------------------------- documents
 
 def test_hints(tally, lups):
@@ -672,7 +624,7 @@ def main():
                  test_plan_object, test_checked_once, test_hints):
         with tally.case(test.__name__):
             test(tally, lups)
-    for test in test_masks, test_wrong_masks, test_fields, test_types, test_speed:
+    for test in test_masks, test_wrong_masks, test_fields, test_types:
         with tally.case(test.__name__):
             test(tally, lups[0])
     for test in test_pool, test_readme:
