@@ -4,6 +4,7 @@
 
 #include <errno.h>
 #include <inttypes.h>
+#include <stdarg.h>
 #include <stdlib.h>
 #include <string.h>
 
@@ -23,62 +24,71 @@ static void put_word(FILE *file, uint64_t word) {
     fwrite(bytes, 1, WORD_BYTES, file);
 }
 
-/* Reads exactly so many bytes of the named part. */
-static int read_part(FILE *file, const char *name, const char *part, uint8_t *bytes, size_t count) {
-    size_t got = fread(bytes, 1, count, file);
-    if (got == count) return DONE;
-    if (ferror(file)) return complain("%s: it cannot be read: %s", name, strerror(errno));
-    return complain("%s: not a field: it ends inside its %s, %zu bytes short", name, part, count - got);
+int find_fault(fault *why, int damaged, const char *format, ...) {
+    va_list items;
+    why->damaged = damaged;
+    va_start(items, format);
+    vsnprintf(why->text, sizeof why->text, format, items);
+    va_end(items);
+    return MISUSED;
 }
 
-static int read_shape(FILE *file, const char *name, shape *s) {
+/* Reads exactly so many bytes of the named part. */
+static int read_part(FILE *file, const char *part, uint8_t *bytes, size_t count, fault *why) {
+    size_t got = fread(bytes, 1, count, file);
+    if (got == count) return DONE;
+    if (ferror(file)) return find_fault(why, 0, "it cannot be read: %s", strerror(errno));
+    return find_fault(why, 1, "not a field: it ends inside its %s, %zu bytes short", part, count - got);
+}
+
+static int read_shape(FILE *file, shape *s, fault *why) {
     uint8_t bytes[WORD_BYTES * MOST_RANK];
     char text[SHAPE_TEXT];
-    if (read_part(file, name, "first 8 bytes", bytes, MAGIC_BYTES) != DONE) return MISUSED;
-    if (memcmp(bytes, MAGIC, MAGIC_BYTES) != 0) return complain("%s: not a field: it does not begin with " MAGIC, name);
-    if (read_part(file, name, "rank", bytes, WORD_BYTES) != DONE) return MISUSED;
+    if (read_part(file, "first 8 bytes", bytes, MAGIC_BYTES, why) != DONE) return MISUSED;
+    if (memcmp(bytes, MAGIC, MAGIC_BYTES) != 0) return find_fault(why, 1, "not a field: it does not begin with " MAGIC);
+    if (read_part(file, "rank", bytes, WORD_BYTES, why) != DONE) return MISUSED;
     uint64_t rank = word_at(bytes);
-    if (rank > MOST_RANK) return complain("%s: not a field: its rank is %" PRIu64 ", not 0..4", name, rank);
+    if (rank > MOST_RANK) return find_fault(why, 1, "not a field: its rank is %" PRIu64 ", not 0..4", rank);
     s->rank = (size_t)rank;
-    if (read_part(file, name, "extents", bytes, s->rank * WORD_BYTES) != DONE) return MISUSED;
+    if (read_part(file, "extents", bytes, s->rank * WORD_BYTES, why) != DONE) return MISUSED;
     for (size_t axis = 0; axis < s->rank; axis++) {
         uint64_t extent = s->extents[axis] = word_at(bytes + axis * WORD_BYTES);
-        if (extent < 1 || extent > MOST_ELEMENTS) return complain("%s: not a field: its extent %zu is %" PRIu64 ", not 1..1048576", name, axis, extent);
+        if (extent < 1 || extent > MOST_ELEMENTS) return find_fault(why, 1, "not a field: its extent %zu is %" PRIu64 ", not 1..1048576", axis, extent);
     }
     if (element_count(s) > 0) return DONE;
     write_shape(s, text);
-    return complain("%s: not a field: its shape %s has over 1048576 elements", name, text);
+    return find_fault(why, 1, "not a field: its shape %s has over 1048576 elements", text);
 }
 
-int allocate_cells(const char *name, size_t count, int64_t **values, uint8_t **flags) {
+int allocate_cells(size_t count, int64_t **values, uint8_t **flags) {
     size_t room = count > 0 ? count : 1;
     *values = room <= SIZE_MAX / sizeof **values ? malloc(room * sizeof **values) : NULL;
     *flags = malloc(room);
-    if (*values != NULL && *flags != NULL) return DONE;
+    if (*values != NULL && *flags != NULL) return 1;
     free(*values);
     free(*flags);
     *values = NULL, *flags = NULL;
-    return complain("%s: there is no memory for %zu elements", name, count);
+    return 0;
 }
 
 /* The values and flags, after which the file ends. The values' bytes are read into their own place and put in order there. */
-static int read_cells(FILE *file, const char *name, field *f) {
-    if (read_part(file, name, "values", (uint8_t *)f->values, f->count * sizeof *f->values) != DONE) return MISUSED;
+static int read_cells(FILE *file, field *f, fault *why) {
+    if (read_part(file, "values", (uint8_t *)f->values, f->count * sizeof *f->values, why) != DONE) return MISUSED;
     for (size_t k = 0; k < f->count; k++) f->values[k] = (int64_t)word_at((const uint8_t *)&f->values[k]);
-    if (read_part(file, name, "flags", f->flags, f->count) != DONE) return MISUSED;
+    if (read_part(file, "flags", f->flags, f->count, why) != DONE) return MISUSED;
     for (size_t k = 0; k < f->count; k++)
-        if (f->flags[k] > 1) return complain("%s: not a field: the flag of element %zu is %u, neither 0 nor 1", name, k, (unsigned)f->flags[k]);
-    if (fgetc(file) != EOF) return complain("%s: not a field: there are bytes after its last flag", name);
-    if (ferror(file)) return complain("%s: it cannot be read: %s", name, strerror(errno));
+        if (f->flags[k] > 1) return find_fault(why, 1, "not a field: the flag of element %zu is %u, neither 0 nor 1", k, (unsigned)f->flags[k]);
+    if (fgetc(file) != EOF) return find_fault(why, 1, "not a field: there are bytes after its last flag");
+    if (ferror(file)) return find_fault(why, 0, "it cannot be read: %s", strerror(errno));
     return DONE;
 }
 
-int read_field(FILE *file, const char *name, field *f) {
+int read_field(FILE *file, field *f, fault *why) {
     *f = (field){.count = 0};
-    if (read_shape(file, name, &f->shape) != DONE) return MISUSED;
+    if (read_shape(file, &f->shape, why) != DONE) return MISUSED;
     f->count = element_count(&f->shape);
-    if (allocate_cells(name, f->count, &f->values, &f->flags) != DONE) return MISUSED;
-    if (read_cells(file, name, f) == DONE) return DONE;
+    if (!allocate_cells(f->count, &f->values, &f->flags)) return find_fault(why, 0, "there is no memory for %zu elements", f->count);
+    if (read_cells(file, f, why) == DONE) return DONE;
     free_field(f);
     return MISUSED;
 }

@@ -6,6 +6,8 @@
 
 #include <stdio.h>
 
+#define FAULT_TEXT 320
+
 /* count elements; a flag is 1 for a known number and 0 for a gap, whose value means nothing. */
 typedef struct {
     shape shape;
@@ -20,11 +22,20 @@ typedef struct {
     int64_t least, greatest;
 } field_range;
 
-/* Room for so many values and flags, at least for one. DONE, or MISUSED with a message that names the file. */
-int allocate_cells(const char *name, size_t count, int64_t **values, uint8_t **flags);
+/* Why a file is not read. damaged: it was read, and is no field or not the wanted one; else reading it failed, or there is no memory. */
+typedef struct {
+    int damaged;
+    char text[FAULT_TEXT];
+} fault;
 
-/* Reads a field from an open file. DONE; MISUSED with a message and nothing to free. */
-int read_field(FILE *file, const char *name, field *f);
+/* Room for so many values and flags, at least for one; 0 where there is no memory. */
+int allocate_cells(size_t count, int64_t **values, uint8_t **flags);
+
+/* Sets the fault and its text; gives MISUSED. */
+int find_fault(fault *why, int damaged, const char *format, ...) __attribute__((format(printf, 3, 4)));
+
+/* Reads a field from an open file. DONE; MISUSED with the fault, which is told nowhere yet, and nothing to free. */
+int read_field(FILE *file, field *f, fault *why);
 
 /* Writes a field, its gaps as value 0; whether that worked is left in the file's state. */
 void write_field(FILE *file, const field *f);

@@ -10,8 +10,8 @@ typedef struct {
     int (*call)(arguments a);
 } command;
 
-static const char STATUSES[] = "Exit status: 0 done; 1 refused by the library, with number, place and rule on standard error;\n"
-                               "2 misuse, or a file that cannot be read or written.\n";
+static const char STATUSES[] = "Exit status: 0 done; 1 refused: by the library, with number, place and rule on standard error, or by run for too many missing\n"
+                               "inputs; 2 misuse, or a file that cannot be read or written; 3 done, with inputs missing or damaged (run).\n";
 
 static const command COMMANDS[] = {
     {"list",
@@ -25,12 +25,18 @@ static const command COMMANDS[] = {
      "Says whether a plan is accepted, with the number of its nodes and of the elements of all nodes; else what it is refused for, and where.\n",
      check_command},
     {"run",
-     "lup run PLAN INPUT... -o FIELD [--node N]\n\n"
+     "lup run PLAN INPUT... -o FIELD [--node N] [--missing N] [--damaged-as-gaps] [--report FILE]\n\n"
      "Runs a plan and writes the field of its last node. There is one input file for each PARAM, in the order of the PARAMs.\n"
-     "An input file that does not exist is read as gaps and named in the report; one that is there must be a field of the PARAM's shape.\n"
+     "An input file that does not exist is missing: it is read as gaps and named on standard error, and the status is 3. Where more are missing than\n"
+     "may be, the status is 1 and nothing is written. Only a file whose folder is there can be missing: a folder that is not there, a link that leads\n"
+     "nowhere, a file that cannot be read, and one that is no field of the PARAM's shape are errors with status 2.\n"
      "FIELD is written whole or not at all; it may be none of the files that are read.\n"
-     "-o FIELD   the file to write\n"
-     "--node N   the field of node N, counted from 0, instead of the last node's\n",
+     "-o FIELD            the file to write\n"
+     "--node N            the field of node N, counted from 0, instead of the last node's\n"
+     "--missing N         at most N inputs may be missing; 1 where it is not given\n"
+     "--damaged-as-gaps   an input that is there and is no field of the PARAM's shape is read as gaps and named, and counts as a missing one\n"
+     "--report FILE       a report in JSON: plan, inputs (file, param, node, state read, missing or damaged, shape, elements, gaps) and output; written\n"
+     "                    with FIELD or not at all; it may be neither FIELD nor a file that is read\n",
      run_command},
     {"lookup",
      "lup lookup PLAN NODE ELEMENT\n\n"

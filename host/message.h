@@ -2,7 +2,8 @@
 #ifndef MESSAGE_H
 #define MESSAGE_H
 
-enum { DONE = 0, REFUSED = 1, MISUSED = 2 };
+/* INCOMPLETE: done, with inputs that were missing or damaged. */
+enum { DONE = 0, REFUSED = 1, MISUSED = 2, INCOMPLETE = 3 };
 
 /* Writes 'lup: ' and the message, as a line; gives MISUSED. */
 int complain(const char *format, ...) __attribute__((format(printf, 1, 2)));

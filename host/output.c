@@ -38,19 +38,12 @@ static void hold_signals(output *o) {
     signal(SIGXFSZ, SIG_IGN);
 }
 
-/* Ends the writing: the temporary name is free. */
-static void let_go(output *o) {
+void end_output(output *o) {
+    if (o->file != NULL) fclose(o->file);
+    if (o->temporary != NULL) unlink(o->temporary);
     free(o->temporary);
-    o->temporary = NULL;
+    o->file = NULL, o->temporary = NULL;
     sigprocmask(SIG_SETMASK, &o->signals, NULL);
-}
-
-/* Removes the temporary file and says what could not be done. */
-static int drop_output(output *o, const char *what, int why) {
-    unlink(o->temporary);
-    complain("%s: it cannot be %s: %s", o->name, what, strerror(why));
-    let_go(o);
-    return MISUSED;
 }
 
 int open_output(const char *name, output *o) {
@@ -62,24 +55,38 @@ int open_output(const char *name, output *o) {
     int descriptor = open_temporary(o);
     if (descriptor < 0) {
         complain("%s: no file can be made beside it: %s", name, strerror(errno));
-        let_go(o);
+        free(o->temporary);
+        o->temporary = NULL;
+        end_output(o);
         return MISUSED;
     }
     o->file = fdopen(descriptor, "wb");
     if (o->file != NULL) return DONE;
-    int why = errno;
+    complain("%s: it cannot be written: %s", name, strerror(errno));
     close(descriptor);
-    return drop_output(o, "written", why);
+    end_output(o);
+    return MISUSED;
 }
 
-int keep_output(output *o) {
+int settle_output(output *o) {
     int failed = ferror(o->file) || fflush(o->file) != 0 || fsync(fileno(o->file)) != 0;
     int why = errno;
     if (fclose(o->file) != 0 && !failed) failed = 1, why = errno;
-    if (failed) return drop_output(o, "written", why);
-    if (rename(o->temporary, o->name) != 0) return drop_output(o, "given its name", errno);
-    let_go(o);
+    o->file = NULL;
+    return failed ? complain("%s: it cannot be written: %s", o->name, strerror(why)) : DONE;
+}
+
+int name_output(output *o) {
+    if (rename(o->temporary, o->name) != 0) return complain("%s: it cannot be given its name: %s", o->name, strerror(errno));
+    free(o->temporary);
+    o->temporary = NULL;
     return DONE;
+}
+
+int keep_output(output *o) {
+    int kept = settle_output(o) == DONE && name_output(o) == DONE;
+    end_output(o);
+    return kept ? DONE : MISUSED;
 }
 
 /* The directory of a name, and the name's last part. */
@@ -98,11 +105,20 @@ static int find_directory(const char *name, struct stat *directory, const char *
 
 static int same_file(const struct stat *a, const struct stat *b) { return a->st_dev == b->st_dev && a->st_ino == b->st_ino; }
 
-int expect_apart(const char *written, const char *read) {
-    struct stat a, b;
+int names_one_file(const char *a, const char *b) {
+    struct stat first, second;
     const char *last_a, *last_b;
-    int same = stat(written, &a) == 0 && stat(read, &b) == 0 && same_file(&a, &b);
-    if (!same && find_directory(written, &a, &last_a) && find_directory(read, &b, &last_b))
-        same = same_file(&a, &b) && strcmp(last_a, last_b) == 0;
-    return same ? complain("%s: it is to be read and to be written; nothing was done", read) : DONE;
+    if (stat(a, &first) == 0 && stat(b, &second) == 0 && same_file(&first, &second)) return 1;
+    if (!find_directory(a, &first, &last_a) || !find_directory(b, &second, &last_b)) return 0;
+    return same_file(&first, &second) && strcmp(last_a, last_b) == 0;
+}
+
+int has_directory(const char *name) {
+    struct stat directory;
+    const char *last;
+    return find_directory(name, &directory, &last);
+}
+
+int expect_apart(const char *written, const char *read) {
+    return names_one_file(written, read) ? complain("%s: it is to be read and to be written; nothing was done", read) : DONE;
 }

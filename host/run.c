@@ -1,88 +1,11 @@
 /* lup run. */
 #include "commands.h"
-#include "field.h"
+#include "job.h"
 #include "message.h"
 #include "output.h"
 
-#include <errno.h>
 #include <inttypes.h>
 #include <stdlib.h>
-#include <string.h>
-
-/* One PARAM: its node, the file given for it, where its elements begin in the input, whether the file is missing. */
-typedef struct {
-    size_t node, start;
-    node_facts facts;
-    const char *file;
-    int missing;
-} input;
-
-/* A run: the plan, its inputs end to end, the elements of all nodes. */
-typedef struct {
-    plan plan;
-    input inputs[MOST_PARAMS];
-    size_t ninputs, ninput_cells, ncells, node;
-    int64_t *values, *out_values;
-    uint8_t *flags, *out_flags;
-} job;
-
-static int64_t slot_of(const job *j, const input *in) { return word_of(&j->plan, in->node, WORD_NUMBER); }
-
-static int refuse_shape(const job *j, const input *in, const shape *found) {
-    char wanted[SHAPE_TEXT], text[SHAPE_TEXT];
-    write_shape(found, text);
-    write_shape(&in->facts.shape, wanted);
-    return complain("%s: its shape is %s, and PARAM %" PRId64 " (node %zu) wants %s", in->file, text, slot_of(j, in), in->node, wanted);
-}
-
-/* A file that is there has the PARAM's shape. */
-static int copy_input(job *j, const input *in, FILE *file) {
-    field f;
-    if (read_field(file, in->file, &f) != DONE) return MISUSED;
-    int status = same_shape(&f.shape, &in->facts.shape) ? DONE : refuse_shape(j, in, &f.shape);
-    if (status == DONE) {
-        memcpy(j->values + in->start, f.values, f.count * sizeof *f.values);
-        memcpy(j->flags + in->start, f.flags, f.count);
-    }
-    free_field(&f);
-    return status;
-}
-
-/* A file that is not there is a field of gaps. */
-static int read_input(job *j, input *in) {
-    FILE *file = fopen(in->file, "rb");
-    if (file == NULL && errno != ENOENT) return complain("%s: it cannot be opened: %s", in->file, strerror(errno));
-    in->missing = file == NULL;
-    if (in->missing) {
-        memset(j->values + in->start, 0, in->facts.count * sizeof *j->values);
-        memset(j->flags + in->start, 0, in->facts.count);
-        return DONE;
-    }
-    int status = copy_input(j, in, file);
-    fclose(file);
-    return status;
-}
-
-/* The PARAMs of the plan, each with its file. */
-static int find_inputs(job *j, char **files, size_t nfiles) {
-    for (size_t node = 0; node < j->plan.nodes; node++) {
-        node_facts f = facts_of(&j->plan, node);
-        j->ncells += f.count;
-        if (f.operation != PARAM || j->ninputs == MOST_PARAMS) continue;
-        const char *file = j->ninputs < nfiles ? files[j->ninputs] : "";
-        j->inputs[j->ninputs++] = (input){.node = node, .start = j->ninput_cells, .facts = f, .file = file};
-        j->ninput_cells += f.count;
-    }
-    if (j->ninputs == nfiles) return DONE;
-    return complain("run: %s has %zu PARAM%s, and %zu input file%s given", j->plan.name, j->ninputs, j->ninputs == 1 ? "" : "s", nfiles,
-                    nfiles == 1 ? " is" : "s are");
-}
-
-static int read_inputs(job *j) {
-    for (size_t k = 0; k < j->ninputs; k++)
-        if (read_input(j, &j->inputs[k]) != DONE) return MISUSED;
-    return DONE;
-}
 
 /* The PARAM that holds a position of the input. */
 static const input *input_at(const job *j, uint64_t position) {
@@ -122,35 +45,46 @@ static field result_of(const job *j) {
     return (field){.shape = f.shape, .count = f.count, .values = j->out_values + start, .flags = j->out_flags + start};
 }
 
-static int report_missing(const job *j) {
-    char text[SHAPE_TEXT];
-    for (size_t k = 0; k < j->ninputs; k++) {
-        const input *in = &j->inputs[k];
-        write_shape(&in->facts.shape, text);
-        if (in->missing) printf("missing: %s (PARAM %" PRId64 ", %s): read as gaps\n", in->file, slot_of(j, in), text);
-    }
-    return finish_output();
+/* The two files, report NULL where there is none, are on the disk before either has its name. */
+static int keep_files(output *written, output *report) {
+    if (settle_output(written) != DONE || (report != NULL && settle_output(report) != DONE)) return MISUSED;
+    if (name_output(written) != DONE) return MISUSED;
+    return report != NULL ? name_output(report) : DONE;
 }
 
-/* The missing inputs are told before the file is there: where they cannot be, nothing is written. */
-static int write_result(const job *j, const char *name) {
-    field f = result_of(j);
+/* The field, and the report in its open file. */
+static int write_files(const job *j, const field *f, output *report) {
     output o;
+    if (open_output(j->written, &o) != DONE) return MISUSED;
+    write_field(o.file, f);
+    if (report != NULL) write_report(report->file, j, f);
+    int status = keep_files(&o, report);
+    end_output(&o);
+    return status;
+}
+
+static int write_result(const job *j) {
+    field f = result_of(j);
+    output report;
     char text[SHAPE_TEXT];
-    if (report_missing(j) != DONE || open_output(name, &o) != DONE) return MISUSED;
-    write_field(o.file, &f);
-    if (keep_output(&o) != DONE) return MISUSED;
+    if (j->report != NULL && open_output(j->report, &report) != DONE) return MISUSED;
+    int status = write_files(j, &f, j->report != NULL ? &report : NULL);
+    if (j->report != NULL) end_output(&report);
+    if (status != DONE) return status;
     write_shape(&f.shape, text);
-    printf("written: %s, node %zu (%s) of shape %s, %zu of %zu cells are gaps\n", name, j->node, operation_name(word_of(&j->plan, j->node, 0)), text,
+    printf("written: %s, node %zu (%s) of shape %s, %zu of %zu cells are gaps\n", j->written, j->node, operation_name(word_of(&j->plan, j->node, 0)), text,
            range_of(&f).gaps, f.count);
+    if (j->report != NULL) printf("written: %s, the report\n", j->report);
     return finish_output();
 }
 
 /* What a run reads and writes, before anything is opened. */
-static int expect_names(const arguments *a, const char *written) {
+static int expect_names(const arguments *a, const job *j) {
+    if (j->report != NULL && names_one_file(j->report, j->written)) return complain("%s: the field and the report are one file; nothing was done", j->report);
     for (size_t k = 0; k < a->count; k++) {
         if (a->words[k][0] == '\0') return complain("run: a file name is empty, word %zu after run", k + 1);
-        if (expect_apart(written, a->words[k]) != DONE) return MISUSED;
+        if (expect_apart(j->written, a->words[k]) != DONE) return MISUSED;
+        if (j->report != NULL && expect_apart(j->report, a->words[k]) != DONE) return MISUSED;
     }
     return DONE;
 }
@@ -164,25 +98,41 @@ static int choose_node(const arguments *a, job *j, const char *word) {
     return DONE;
 }
 
-static int run_job(const arguments *a, job *j, const char *written, const char *node) {
+static int make_room(job *j) {
+    if (allocate_cells(j->ninput_cells, &j->values, &j->flags) && allocate_cells(j->ncells, &j->out_values, &j->out_flags)) return DONE;
+    return complain("%s: there is no memory for its %zu elements", j->plan.name, j->ncells);
+}
+
+/* The inputs that are read as gaps are told before anything is written: where they cannot be, nothing is. */
+static int run_job(const arguments *a, job *j, const char *node) {
     int status = load_plan(a->words[0], &j->plan);
     if (status != DONE) return status;
     if (choose_node(a, j, node) != DONE || find_inputs(j, a->words + 1, a->count - 1) != DONE) return MISUSED;
-    if (allocate_cells(a->words[0], j->ninput_cells, &j->values, &j->flags) != DONE) return MISUSED;
-    if (allocate_cells(a->words[0], j->ncells, &j->out_values, &j->out_flags) != DONE) return MISUSED;
-    if (read_inputs(j) != DONE) return MISUSED;
-    status = compute(j);
-    return status == DONE ? write_result(j, written) : status;
+    if (make_room(j) != DONE || read_inputs(j) != DONE) return MISUSED;
+    status = tell_absent(j);
+    if (status == DONE) status = compute(j);
+    if (status == DONE) status = write_result(j);
+    return status == DONE && absent_inputs(j) > 0 ? INCOMPLETE : status;
 }
 
+enum { WRITTEN, NODE, ABSENT, DAMAGED_AS_GAPS, REPORT, OPTION_COUNT };
+
 int run_command(arguments a) {
-    option options[] = {{.name = "-o", .takes_value = 1}, {.name = "--node", .takes_value = 1}};
-    job j = {.ninputs = 0};
-    if (take_options(&a, options, 2) != DONE) return MISUSED;
+    option options[OPTION_COUNT] = {[WRITTEN] = {.name = "-o", .takes_value = 1},
+                                    [NODE] = {.name = "--node", .takes_value = 1},
+                                    [ABSENT] = {.name = "--missing", .takes_value = 1},
+                                    [DAMAGED_AS_GAPS] = {.name = "--damaged-as-gaps"},
+                                    [REPORT] = {.name = "--report", .takes_value = 1}};
+    job j = {.most_absent = 1};
+    if (take_options(&a, options, OPTION_COUNT) != DONE) return MISUSED;
     if (expect_words(&a, 1, 1 + MOST_PARAMS, "one PLAN and at most 16 INPUTs") != DONE) return MISUSED;
-    if (options[0].value == NULL) return complain("run: -o FIELD is not given; see lup run --help");
-    if (expect_names(&a, options[0].value) != DONE) return MISUSED;
-    int status = run_job(&a, &j, options[0].value, options[1].value);
+    if (options[WRITTEN].value == NULL) return complain("run: -o FIELD is not given; see lup run --help");
+    if (options[ABSENT].value != NULL && read_number(&a, "--missing", options[ABSENT].value, &j.most_absent) != DONE) return MISUSED;
+    j.written = options[WRITTEN].value;
+    j.report = options[REPORT].value;
+    j.damaged_as_gaps = options[DAMAGED_AS_GAPS].value != NULL;
+    if (expect_names(&a, &j) != DONE) return MISUSED;
+    int status = run_job(&a, &j, options[NODE].value);
     free(j.values);
     free(j.flags);
     free(j.out_values);

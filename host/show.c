@@ -57,9 +57,10 @@ static void draw_field(const field *f, const char *name) {
 static int load_field(const char *name, field *f) {
     FILE *file = fopen(name, "rb");
     if (file == NULL) return complain("%s: it cannot be opened: %s", name, strerror(errno));
-    int status = read_field(file, name, f);
+    fault why;
+    int status = read_field(file, f, &why);
     fclose(file);
-    return status;
+    return status == DONE ? DONE : complain("%s: %s", name, why.text);
 }
 
 /* The picture goes to the named file. */

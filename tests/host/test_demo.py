@@ -9,6 +9,7 @@ import re
 import struct
 import subprocess
 import sys
+import tempfile
 import xml.etree.ElementTree
 
 sys.dont_write_bytecode = True
@@ -72,10 +73,30 @@ def test_pictures(tally, text, cells):
         tally.same(name + '.svg', (kinds.count('known'), kinds.count('gap')), (len(cells) - gaps, gaps))
 
 
+def run_demo(root):
+    return subprocess.run([os.path.join(root, 'demo', 'run')], capture_output=True, text=True, check=False, env={**os.environ, 'TERM': 'dumb', 'COLUMNS': '80'})
+
+
+def test_statuses(tally):
+    """The demo over a program whose statuses are other ones: it has to fail where a missing strip does not give 3, or no missing strip gives it."""
+    for found, other, wanted in ((3, 0, 3), (3, 1, 3), (3, 2, 3), (0, 3, 0)):
+        with tempfile.TemporaryDirectory() as root:
+            for name in ('demo', 'host'):
+                os.symlink(os.path.join(ROOT, name), os.path.join(root, name))
+            os.mkdir(os.path.join(root, 'build'))
+            with open(os.path.join(root, 'build', 'lup'), 'w', encoding='utf-8') as file:
+                file.write(f'#!/bin/sh\n"{ROOT}/build/lup" "$@"\nstatus=$?\n[ "$1 $status" = "run {found}" ] && exit {other}\nexit $status\n')
+                os.fchmod(file.fileno(), 0o755)
+            done = run_demo(root)
+        last = done.stderr.strip().split('\n')[-1]
+        tally.same(f'the demo where {found} is {other}', (done.returncode, last), (1, f'demo/run: build/lup run ended with status {other}, not {wanted}'))
+
+
 def main():
     tally = Tally()
-    done = subprocess.run([os.path.join(ROOT, 'demo', 'run')], capture_output=True, text=True, check=False, env={**os.environ, 'TERM': 'dumb', 'COLUMNS': '80'})
-    tally.same('the demo ends well', (done.returncode, done.stderr), (0, ''))
+    done = run_demo(ROOT)
+    missing = f'missing: demo/strip-{make_bay.DEAD:02}.field (PARAM {make_bay.DEAD}, {make_bay.ROWS}x{make_bay.WIDTH}): read as gaps\n'
+    tally.same('the demo ends well, and names the missing strip in each of two runs', (done.returncode, done.stderr), (0, 2 * missing))
     with open(os.path.join(ROOT, 'demo', 'bay.lup'), encoding='utf-8') as file:
         table = lupasm.table_of(file.read())
     field, strongest = wanted(table, None)
@@ -84,7 +105,8 @@ def main():
     tally.same('with zeros', read_field(os.path.join(OUT, 'zeros.field')), (SHAPE, wanted(table, 0)[0]))
     gaps = [k % SHAPE[1] in DEAD for k in range(SHAPE[0] * SHAPE[1])]
     tally.same('a gap in the columns of the dead strip and nowhere else', [cell is None for cell in field], gaps)
-    tally.same('the missing strip is named', done.stdout.count(f'missing: demo/strip-{make_bay.DEAD:02}.field'), 2)
+    tally.same('no line of it is on standard output', 'missing: ' in done.stdout, False)
+    test_statuses(tally)
     test_pictures(tally, done.stdout, field)
     with open(os.path.join(OUT, 'bay.plan'), 'rb') as file:
         listed = subprocess.run([os.path.join(ROOT, 'build', 'list')], stdin=file, capture_output=True, text=True, check=True).stdout
