@@ -31,7 +31,7 @@ class Program:
         self.calls += 1
         pipes = {'stdout': subprocess.PIPE, 'stderr': subprocess.PIPE, 'stdin': subprocess.DEVNULL, **more}
         done = subprocess.run([self.path, *words], cwd=self.folder, env=environment, timeout=60, **pipes)
-        return done.returncode, (done.stdout or b'').decode(), (done.stderr or b'').decode(errors='replace')
+        return done.returncode, (done.stdout or b'').decode(errors='surrogateescape'), (done.stderr or b'').decode(errors='replace')
 
     def files(self):
         """What stands in the folder: a file's bytes, and what is no plain file by name alone."""

@@ -4,6 +4,7 @@
 usage: test_host.py [PROGRAM] [COUNT] [SEED]     PROGRAM: build/lup, or build/lup-sanitized; COUNT: random damages; last line: 'N passed, 0 failed'
 """
 
+import json
 import os
 import re
 import resource
@@ -191,8 +192,20 @@ def wanted_field(table, values, flags, number):
     return field_bytes(records[number].extents, list(field.values()))
 
 
+def wanted_report(plan, table, flags, files, states, written, number, cells):
+    """The report of a run as the usage says it, from the plan's table and the flags of all inputs."""
+    records = model.verdict(table)[1]
+    params = [k for k in range(len(records)) if table[17 * k] == PARAM]
+    parts = [part for _, _, part in parts_of(table, flags, flags)]
+    inputs = [{'file': name, 'param': slot, 'node': own, 'state': state, 'shape': list(records[own].extents), 'elements': len(part), 'gaps': part.count(0)}
+              for slot, (name, own, state, part) in enumerate(zip(files, params, states, parts))]
+    output = {'file': written, 'node': number, 'operation': OPERATIONS[table[17 * number]], 'shape': list(records[number].extents), 'elements': len(cells),
+              'gaps': cells.count(None)}
+    return {'plan': plan, 'inputs': inputs, 'output': output}
+
+
 def run_once(tally, lup, rng, table, values, flags):
-    """A run with some files missing, of the last node or of any; its report and its field."""
+    """A run with some files missing, as many as may be, of the last node or of any; what it says, its field and its report."""
     files, missing = [], ''
     for slot, (extents, own_values, own_flags) in enumerate(parts_of(table, values, flags)):
         files.append(f'strip-{slot:02}.field')
@@ -209,12 +222,16 @@ def run_once(tally, lup, rng, table, values, flags):
     lup.put('p.plan', pack(table))
     field = wanted_field(table, values, flags, number)
     extents, cells = read_field(field)
-    report = (f'{missing}written: out.field, node {number} ({OPERATIONS[table[17 * number]]}) of shape {shape_text(extents)}, '
-              f'{cells.count(None)} of {len(cells)} cells are gaps\n')
-    with tally.case(('run', report)):
-        tally.same(('run', files), lup.run('run', *asked, 'p.plan', *files, '-o', 'out.field'), (0, report, ''))
+    told = (f'written: out.field, node {number} ({OPERATIONS[table[17 * number]]}) of shape {shape_text(extents)}, '
+            f'{cells.count(None)} of {len(cells)} cells are gaps\nwritten: r.json, the report\n')
+    asked += ['--missing', str(missing.count('\n'))]
+    with tally.case(('run', told)):
+        wanted = (3 if missing else 0, told, missing)
+        tally.same(('run', files), lup.run('run', *asked, 'p.plan', *files, '-o', 'out.field', '--report', 'r.json'), wanted)
         tally.same(('field', files), lup.get('out.field') == field, True)
-    return bool(missing), cells.count(None) > 0, bool(asked)
+        states = ['missing' if f' {name} ' in missing else 'read' for name in files]
+        tally.same(('report', files), json.loads(lup.get('r.json')), wanted_report('p.plan', table, flags, files, states, 'out.field', number, cells))
+    return bool(missing), cells.count(None) > 0, '--node' in asked
 
 
 def test_runs(tally, lup, rng):
@@ -249,26 +266,155 @@ def join_plan():
     return table
 
 
+def too_many(count, inputs, most, kind='missing'):
+    """The message for more missing inputs than may be."""
+    return (f'lup: run: {count} of {inputs} input{"s" * (inputs != 1)} {"is" if count == 1 else "are"} {kind}, and at most {most} may be; '
+            f'nothing was written (--missing {count} allows so many)\n')
+
+
 def test_missing(tally, lup):
-    """The strips of dead machines are gaps, and are named."""
-    table = join_plan()
-    lup.put('bay.plan', pack(table))
+    """The strips of dead machines are gaps and are named, the status is 3; more than may be missing: status 1, and nothing is written."""
+    lup.put('bay.plan', pack(join_plan()))
     files = [f'strip-{k:02}.field' for k in range(12)]
-    for k, name in enumerate(files):
-        lup.put(name, field_bytes((2, 3), [k * 10 + c for c in range(6)]))
-    for dead in ((), (7,), (0, 11), range(12)):
+    for dead in ((), (7,), (0, 11), range(11), range(12)):
+        for k, name in enumerate(files):
+            lup.put(name, field_bytes((2, 3), [k * 10 + c for c in range(6)]))
         for k in dead:
-            if os.path.exists(lup.at(files[k])):
-                os.remove(lup.at(files[k]))
-        told = ''.join(f'missing: {files[k]} (PARAM {k}, 2x3): read as gaps\n' for k in range(12) if not os.path.exists(lup.at(files[k])))
-        gaps = 66 + 6 * (not os.path.exists(lup.at(files[11])))
-        report = f'{told}written: out.field, node 23 (PAD) of shape 2x36, {gaps} of 72 cells are gaps\n'
-        with tally.case(('missing', list(dead))):
-            tally.same(('missing', list(dead)), lup.run('run', 'bay.plan', *files, '-o', 'out.field'), (0, report, ''))
-            tally.same(('cells', list(dead)), read_field(lup.get('out.field'))[1].count(None), gaps)
-    wanted = 'missing: strip-07.field (PARAM 7, 2x3): read as gaps'
-    tally.holds('the line of a missing strip', wanted in lup.run('run', 'bay.plan', *files, '-o', 'out.field')[1].split('\n'))
-    tally.same('one that is nowhere, by a folder that is not there', lup.run('run', 'bay.plan', *files[:11], 'no/where.field', '-o', 'out.field')[0], 0)
+            os.remove(lup.at(files[k]))
+        told = ''.join(f'missing: {files[k]} (PARAM {k}, 2x3): read as gaps\n' for k in dead)
+        gaps = 66 + 6 * (11 in dead)
+        report = f'written: out.field, node 23 (PAD) of shape 2x36, {gaps} of 72 cells are gaps\n'
+        for most in (None, 0, 1, 2, 3, 10, 11, 12, 13, 2 ** 64 - 1):
+            lup.put('out.field', OLD)
+            before, words = lup.files(), ('--missing', str(most)) if most is not None else ()
+            got = lup.run('run', 'bay.plan', *files, '-o', 'out.field', *words)
+            with tally.case(('missing', list(dead), most)):
+                if len(dead) > (1 if most is None else most):
+                    tally.same('too many', got, (1, '', told + too_many(len(dead), 12, 1 if most is None else most)))
+                    tally.same('too many: nothing is written', lup.files() == before, True)
+                else:
+                    tally.same('missing', got, (3 if dead else 0, report, told))
+                    tally.same('cells', read_field(lup.get('out.field'))[1].count(None), gaps)
+    with tally.case('too many, with a report'):
+        before = lup.files()
+        tally.same('its status', lup.run('run', 'bay.plan', *files, '-o', 'new.field', '--report', 'new.json')[:2], (1, ''))
+        tally.same('neither file is there', lup.files() == before, True)
+    lup.put('p.plan', pack(PAIR + param(1, I16, -9, 9, (2,)) + apply(ADD, 0, 1)))
+    lup.put('b.field', field_bytes((2,), [0, 10]))
+    wanted = ('missing: gone.field (PARAM 0, 2): read as gaps\nlup: b.field: refused 16 at element 1 (column 1) of PARAM 1 (node 1 of p.plan, '
+              'input position 3): known number outside limits: 10, not -9..9\n')
+    tally.same('a refusal beside a missing strip', lup.run('run', 'p.plan', 'gone.field', 'b.field', '-o', 'out.field'), (1, '', wanted))
+    lup.put('p.plan', pack(PAIR))
+    wanted = 'missing: gone.field (PARAM 0, 2): read as gaps\n' + too_many(1, 1, 0)
+    tally.same('one of one', lup.run('run', 'p.plan', 'gone.field', '-o', 'out.field', '--missing', '0'), (1, '', wanted))
+
+
+def not_missing():
+    """Inputs that are no missing strips, with words of the message."""
+    yield 'no/where.field', 'it cannot be opened: its folder is not there'
+    yield 'no/', 'it cannot be opened: its folder is not there'
+    yield 'lost/strip.field', 'it cannot be opened: its folder is not there'
+    yield 'a.field/strip.field', 'it cannot be opened: Not a directory'
+    yield 'a.field/', 'it cannot be opened: Not a directory'
+    yield 'dead.field', 'it cannot be opened: it is a link that leads nowhere'
+    yield 'lost', 'it cannot be opened: it is a link that leads nowhere'
+    yield 'loop.field', 'it cannot be opened: Too many levels of symbolic links'
+    yield 'n' * 300, 'it cannot be opened: File name too long'
+    yield 'folder', 'it cannot be read: Is a directory'
+    yield 'mode.field', 'it cannot be opened: Permission denied'
+    yield 'shut/there.field', 'it cannot be opened: Permission denied'
+    yield 'shut/gone.field', 'it cannot be opened: Permission denied'
+
+
+def test_not_missing(tally, lup):
+    """What cannot be read is an error whatever may be missing; only a file that its folder does not have is missing. The folder is open to the user who
+    runs this, so that a program that took one for missing would write its field."""
+    shut, old = ('mode.field', 'shut'), lup.folder
+    lup.folder = lup.at('open')
+    for name in ('', 'folder', 'shut'):
+        os.mkdir(lup.at(name))
+    os.chmod(lup.folder, 0o777)
+    lup.put('p.plan', pack(PADDED))
+    for name in ('a.field', 'mode.field', 'shut/there.field'):
+        lup.put(name, field_bytes((2,), [7, 9]))
+    for target, name in (('gone.field', 'dead.field'), ('no/such', 'lost'), ('loop.field', 'loop.field'), ('folder', 'linked')):
+        os.symlink(target, lup.at(name))
+    before = lup.files()
+    for name in shut:
+        os.chmod(lup.at(name), 0)
+    for name, words in not_missing():
+        for more in ((), ('--missing', '9'), ('--missing', '9', '--damaged-as-gaps')):
+            with tally.case((name, more)):
+                wanted = (2, '', f'lup: {name}: {words}\n')
+                tally.same('an error', lup.run('run', 'p.plan', name, '-o', 'out.field', *more, **as_nobody()), wanted)
+    for name in ('gone.field', './gone.field', 'folder/gone.field', 'linked/gone.field', lup.at('gone.field')):
+        tally.same(('missing', name), lup.run('run', 'p.plan', name, '-o', 'out.field', **as_nobody())[::2],
+                   (3, f'missing: {name} (PARAM 0, 2): read as gaps\n'))
+    os.remove(lup.at('out.field'))
+    for name in shut:
+        os.chmod(lup.at(name), 0o755)
+    tally.same('nothing else is written', lup.files() == before, True)
+    lup.folder = old
+
+
+def test_damaged_as_gaps(tally, lup):
+    """A damaged strip is read as gaps where that is asked for, is named, and counts with the missing ones."""
+    lup.put('p.plan', pack(SIX + move(FLIP, 0, (0, 1))))
+    wrong = [('shape', field_bytes(extents, [1] * prod(extents)), f'its shape is {shape_text(extents)}, and PARAM 0 (node 0) wants 2x3')
+             for extents in ((), (6,), (3, 2), (2, 3, 1))]
+    broken = [(what, data, 'not a field: ' + words) for what, data, words in damaged_fields()]
+    written = 'written: out.field, node 1 (FLIP) of shape 2x3, 6 of 6 cells are gaps\n'
+    for what, data, words in broken + wrong:
+        with tally.case((what, words)):
+            lup.put('bad.field', data)
+            lup.put('out.field', OLD)
+            before, call = lup.files(), ('run', 'p.plan', 'bad.field', '-o', 'out.field', '--damaged-as-gaps')
+            status, text, errors = lup.run(*call, '--missing', '0')
+            told = errors.split('\n')[0] + '\n'
+            tally.same('too many', (status, text, errors), (1, '', told + too_many(1, 1, 0, 'missing or damaged')))
+            tally.same('nothing is written', lup.files() == before, True)
+            tally.same('read as gaps', lup.run(*call), (3, written, told))
+            tally.holds('it is named', told.startswith(f'damaged: bad.field (PARAM 0, 2x3): {words}') and told.endswith(': read as gaps\n'), told)
+            tally.same('all of it is a gap', read_field(lup.get('out.field')), ((2, 3), [None] * 6))
+    lup.put('good.field', field_bytes((2, 3), [1, 2, None, 4, 5, 6]))
+    tally.same('none is damaged', lup.run('run', 'p.plan', 'good.field', '-o', 'out.field', '--damaged-as-gaps')[::2], (0, ''))
+    lup.put('p.plan', pack(sum((param(k, I16, -9, 9, (2, 3)) for k in range(3)), [])))
+    lup.put('bad.field', field_bytes((2, 3), [1] * 6)[:-1])
+    call = ('run', 'p.plan', 'gone.field', 'bad.field', 'good.field', '-o', 'out.field')
+    told = ('missing: gone.field (PARAM 0, 2x3): read as gaps\n'
+            'damaged: bad.field (PARAM 1, 2x3): not a field: it ends inside its flags, 1 bytes short: read as gaps\n')
+    many = (1, '', told + too_many(2, 3, 1, 'missing or damaged'))
+    tally.same('one missing and one damaged are two', lup.run(*call, '--damaged-as-gaps'), many)
+    tally.same('and over one', lup.run(*call, '--damaged-as-gaps', '--missing', '1'), many)
+    tally.same('and two may be', lup.run(*call, '--damaged-as-gaps', '--missing', '2')[::2], (3, told))
+    tally.same('not asked for', lup.run(*call, '--missing', '9'), (2, '', 'lup: bad.field: not a field: it ends inside its flags, 1 bytes short\n'))
+
+
+def test_report(tally, lup):
+    """The report for files of strange names: JSON in UTF-8, a byte that is no UTF-8 as U+FFFD."""
+    table = sum((param(k, I16, -9, 9, extents) for k, extents in enumerate(((2, 3), (2, 3), ()))), [])
+    cells = [1, None, 3, None, None, 6]
+    call = ('--damaged-as-gaps', '--missing', '2', '--report')
+    raw = (b'\xff', b'\xe2\x82', b'\xe2\x82\xac', b'\xc0\xaf', b'\xed\xa0\x80', b'\xf0\x9f\x8c\xac', b'\xf4\x90\x80\x80', b'\xf0\x80\x80\x80', b'\xe0\x80\x80', b'\x80x')
+    strange = ['a"b', 'a\\b', '\\"', 'a\nb\tc\x01\x1f\x7f', 'Wind é €', '{"a": [1]}', '%s%n', *map(os.fsdecode, raw)]
+    for name in strange:
+        plan, good, bad, gone, out, report = (f'{name}.{kind}' for kind in ('plan', 'field', 'bad', 'gone', 'out', 'json'))
+        lup.put(plan, pack(table))
+        lup.put(good, field_bytes((2, 3), cells))
+        lup.put(bad, OLD)
+        with tally.case(('a report', os.fsencode(name))):
+            tally.same('its status', lup.run('run', '-o', out, '--node', '0', *call, report, '--', plan, good, bad, gone)[0], 3)
+            flags = [int(cell is not None) for cell in cells] + [0] * 7
+            files = [plan, good, bad, gone, out]
+            shown = [re.sub('[\udc80-\udcff]', '\ufffd', file) for file in files]
+            wanted = wanted_report(shown[0], table, flags, shown[1:4], ['read', 'damaged', 'missing'], shown[4], 0, cells)
+            tally.same('what it says', json.loads(lup.get(report).decode('utf-8')), wanted)
+        for file in (plan, good, bad, out, report):
+            os.remove(lup.at(file))
+    with tally.case('no input'):
+        lup.put('c.plan', pack(const(I16, 5)))
+        lup.run('run', 'c.plan', '-o', 'out.field', '--report', 'r.json')
+        tally.same('no input', json.loads(lup.get('r.json')), wanted_report('c.plan', const(I16, 5), [], [], [], 'out.field', 0, [5]))
 
 
 def test_limits(tally, lup, rng):
@@ -491,6 +637,16 @@ def refused_outputs(lup):
     yield ('run', 'six.plan', 'point.field', '-o', 'out.field'), 'lup: point.field: its shape is -, and PARAM 0 (node 0) wants 2x3\n'
     yield ('run', 'p.plan', 'a.field/b', '-o', 'out.field'), 'lup: a.field/b: it cannot be opened: Not a directory\n'
     yield ('run', 'p.plan', '', '-o', 'out.field'), 'empty'
+    report = ('run', 'p.plan', 'a.field', '-o', 'new.field', '--report')
+    for same in ('a.field', './a.field', 'folder/../a.field', 'hard.field', 'p.plan'):
+        yield (*report, same), 'to be read and to be written'
+    yield from (((*report, same), 'the field and the report are one file') for same in ('new.field', './new.field', lup.at('new.field')))
+    yield ('run', 'p.plan', 'a.field', '-o', 'out.field', '--report', './out.field'), 'the field and the report are one file'
+    yield ('run', 'p.plan', 'gone.field', '-o', 'new.field', '--report', './gone.field'), 'to be read and to be written'
+    yield (*report, ''), 'empty'
+    yield from (((*report, name), 'no plain file') for name in ('folder', 'link.field', 'pipe.field'))
+    yield (*report, 'none/r.json'), 'No such file or directory'
+    yield ('run', 'p.plan', 'a.field', '-o', 'none/out.field', '--report', 'r.json'), 'No such file or directory'
     svg = ('show', 'a.field', '--svg')
     yield from (((*svg, same), 'to be read and to be written') for same in ('a.field', './a.field', 'hard.field'))
     yield (*svg, 'folder'), 'no plain file'
@@ -558,12 +714,19 @@ def test_full(tally, lup):
             status, text, errors = lup.run(*call, preexec_fn=short_files)
             tally.same((call, 'full'), (status, text, errors), (2, '', f'lup: {call[-1]}: it cannot be written: File too large\n'))
             tally.same((call, 'full, all stays'), lup.files() == before, True)
+    with tally.case('a report that is full'):
+        lup.put('c.plan', pack(const(I16, 5)))
+        before = lup.files()
+        wanted = (2, '', 'lup: r.json: it cannot be written: File too large\n')
+        tally.same('full', lup.run('run', 'c.plan', '-o', 'out.field', '--report', 'r.json', preexec_fn=short_files), wanted)
+        tally.same('the field stays', lup.files() == before, True)
     message = 'lup: standard output cannot be written\n'
     with os.fdopen(os.open('/dev/full', os.O_WRONLY), 'wb') as full:
         for call in (('list', 'p.plan'), ('list', '--dot', 'p.plan'), ('check', 'p.plan'), ('lookup', 'p.plan', '0', '0'), ('show', 'a.field'), ('--help',),
-                     ('run', '--help'), ('run', 'p.plan', 'gone.field', '-o', 'out.field')):
+                     ('run', '--help')):
             tally.same((call, 'no output'), lup.run(*call, stdout=full), (2, '', message))
-        tally.same('where the missing cannot be told, nothing is written', lup.files() == before, True)
+        tally.same('where the missing cannot be told', lup.run('run', 'p.plan', 'gone.field', '-o', 'out.field', stderr=full), (2, '', ''))
+        tally.same('nothing is written', lup.files() == before, True)
         tally.same('a report that is lost', lup.run('run', 'p.plan', 'a.field', '-o', 'out.field', stdout=full), (2, '', message))
 
 
@@ -587,6 +750,11 @@ MISUSE = [
     ((*RUN, '--node'), 'nothing follows --node'), ((*RUN, '--node', '2'), '--node 2: the last node of p.plan is 1'),
     *(((*RUN, '--node', word), f"--node '{word}' is no whole number") for word in NO_NUMBERS),
     ((*RUN, '--node', '18446744073709551615'), '--node 18446744073709551615: the last'),
+    ((*RUN, '--missing'), 'nothing follows --missing'), ((*RUN, '--missing', '1', '--missing', '1'), '--missing is given twice'),
+    *(((*RUN, '--missing', word), f"--missing '{word}' is no whole number") for word in (*NO_NUMBERS, 'all')),
+    (('run', 'c.plan', '-o', 'x', '--missing', 'x'), "--missing 'x' is no whole number"),
+    ((*RUN, '--damaged-as-gaps', '--damaged-as-gaps'), '--damaged-as-gaps is given twice'), ((*RUN, '--damaged'), 'no option --damaged'),
+    ((*RUN, '--report'), 'nothing follows --report'), ((*RUN, '--report', 'r', '--report', 'r'), '--report is given twice'),
     (('lookup',), 'lookup: wanted PLAN, NODE and ELEMENT, and 0 given'), (('lookup', 'p.plan', '0'), 'and 2 given'),
     (('lookup', 'p.plan', '0', '0', '0'), 'and 4 given'), (('lookup', 'p.plan', '-1', '0'), 'no option -1'),
     (('lookup', 'p.plan', 'one', '0'), "NODE 'one' is no whole number"), (('lookup', 'p.plan', '0', '0.0'), "ELEMENT '0.0' is no whole number"),
@@ -692,8 +860,8 @@ def test_damaged_cells(tally, lup, rng, count):
     tally.holds('readable and unreadable fields', met >= {(1, 0), (1, 2), (0, 0), (0, 1), (0, 2)} or count < 100, met)
 
 
-WORDS = (*COMMANDS, '--help', '--dot', '--svg', '--node', '-o', '--', '-', '', '0', '1', '3', '99', '-1', '18446744073709551615', '18446744073709551616',
-         '%s%n', 'x' * 5000, 'p.plan', 'join.plan', 'bad.plan', 'a.field', 'b.field', 'six.field', 'none.field', 'out.field', 'out.svg', 'sub', 'sub/x',
+WORDS = (*COMMANDS, '--help', '--dot', '--svg', '--node', '--missing', '--damaged-as-gaps', '--report', '-o', '--', '-', '', '0', '1', '3', '99', '-1', '18446744073709551615', '18446744073709551616',
+         '%s%n', 'x' * 5000, 'p.plan', 'join.plan', 'bad.plan', 'a.field', 'b.field', 'six.field', 'none.field', 'out.field', 'out.svg', 'r.json', 'sub', 'sub/x',
          'a.field/', '.', '\xff')
 
 
@@ -702,7 +870,8 @@ def random_call(rng):
     if rng.random() < 0.3:
         return rng.choices(WORDS, k=rng.randint(0, 7))
     call = list(rng.choice((('list', 'p.plan', '--dot'), ('check', 'p.plan'), ('run', 'p.plan', 'a.field', '-o', 'out.field'),
-                            ('run', 'join.plan', 'a.field', 'none.field', '-o', 'out.field', '--node', '1'), ('lookup', 'p.plan', '1', '3'),
+                            ('run', 'join.plan', 'a.field', 'none.field', '-o', 'out.field', '--node', '1'),
+                            ('run', 'join.plan', 'six.field', 'a.field', '-o', 'out.field', '--damaged-as-gaps', '--missing', '1', '--report', 'r.json'), ('lookup', 'p.plan', '1', '3'),
                             ('show', 'a.field'), ('show', 'six.field', '--svg', 'out.svg'))))
     for _ in range(rng.randint(0, 2)):
         way, at = rng.randrange(3), rng.randrange(len(call) + 1)
@@ -732,15 +901,18 @@ def test_random_calls(tally, lup, rng, count):
         status, text, errors = lup.run(*call, environment=QUICK)
         after = lup.files()
         with tally.case(call):
-            tally.holds(('status', call), status in (0, 1, 2) and (errors.startswith('lup: ') if status else errors == ''), (status, errors))
-            written = re.findall(r'^written: (.*?), (?:node|\d+ of)', text, re.M)
+            absent = re.match(r'(?:(?:missing|damaged): .*: read as gaps\n)*', errors)[0]
+            rest = errors[len(absent):]
+            tally.holds(('status', call), {0: errors == '', 1: rest.startswith('lup: '), 2: rest.startswith('lup: '), 3: absent and rest == ''}.get(status),
+                        (status, errors))
+            written = re.findall(r'^written: (.*?), (?:node|\d+ of|the report)', text, re.M)
             new = [os.path.relpath(path, lup.folder) for path in after if path not in before or before[path] != after[path]]
             tally.holds(('what is written', call), set(before) <= set(after) and all(os.path.normpath(name) in map(os.path.normpath, written) for name in new)
-                        and bool(written) <= (status == 0), (new, written))
+                        and bool(written) <= (status in (0, 3)), (new, written))
         met.add((call[0] if call else '', status))
         for name in new:
             os.remove(lup.at(name))
-    tally.holds('every command is done, refused and misused', count < 300 or met >= {(name, status) for name in COMMANDS for status in (0, 2)}, met)
+    tally.holds('every command is done, refused and misused', count < 300 or met >= {('run', 3), *((name, status) for name in COMMANDS for status in (0, 2))}, met)
 
 
 # --------------------------------------------------------------------- all
@@ -752,7 +924,8 @@ def main():
     with tempfile.TemporaryDirectory() as folder:
         os.chmod(folder, 0o755)
         lup = Program(path, folder)
-        for test in (test_refusals, test_wording, test_missing, test_damaged_fields, test_output, test_closed_folder, test_full, test_misuse, test_help):
+        for test in (test_refusals, test_wording, test_missing, test_not_missing, test_damaged_as_gaps, test_report, test_damaged_fields, test_output,
+                     test_closed_folder, test_full, test_misuse, test_help):
             test(tally, lup)
         for test in (test_lists, test_graphs, test_runs, test_large_run, test_limits, test_lookups, test_shown, test_svg, test_round_trip):
             test(tally, lup, rng)
