@@ -792,7 +792,9 @@ def test_help(tally, lup):
             with tally.case(call):
                 status, text, errors = lup.run(*call)
                 tally.same((call, 'help'), (status, text.split('\n')[0], errors), (0, usage, ''))
-                tally.holds((call, 'exit statuses'), 'Exit status: 0 done; 1 refused' in text)
+                tally.holds((call, 'exit statuses'), 'Exit status: 0 done; 1 refused' in text and '3 done, with inputs missing or damaged' in text)
+                options = set(re.findall(r'--?[a-z][a-z-]*', usage))
+                tally.same((call, 'a line for each option'), set(re.findall(r'^(--?[a-z][a-z-]*) ', text, re.M)), options)
 
 
 # ------------------------------------------------------------ random damage
