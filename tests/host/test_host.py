@@ -204,6 +204,14 @@ def wanted_report(plan, table, flags, files, states, written, number, cells):
     return {'plan': plan, 'inputs': inputs, 'output': output}
 
 
+def report_of(lup, name):
+    """The report, which is JSON in UTF-8; what is wrong with it where it is not."""
+    try:
+        return json.loads(lup.get(name).decode('utf-8'))
+    except (OSError, ValueError) as wrong:
+        return repr(wrong)
+
+
 def run_once(tally, lup, rng, table, values, flags):
     """A run with some files missing, as many as may be, of the last node or of any; what it says, its field and its report."""
     files, missing = [], ''
@@ -230,7 +238,7 @@ def run_once(tally, lup, rng, table, values, flags):
         tally.same(('run', files), lup.run('run', *asked, 'p.plan', *files, '-o', 'out.field', '--report', 'r.json'), wanted)
         tally.same(('field', files), lup.get('out.field') == field, True)
         states = ['missing' if f' {name} ' in missing else 'read' for name in files]
-        tally.same(('report', files), json.loads(lup.get('r.json')), wanted_report('p.plan', table, flags, files, states, 'out.field', number, cells))
+        tally.same(('report', files), report_of(lup, 'r.json'), wanted_report('p.plan', table, flags, files, states, 'out.field', number, cells))
     return bool(missing), cells.count(None) > 0, '--node' in asked
 
 
@@ -410,13 +418,13 @@ def test_report(tally, lup):
             files = [plan, good, bad, gone, out]
             shown = [re.sub('[\udc80-\udcff]', '\ufffd', file) for file in files]
             wanted = wanted_report(shown[0], table, flags, shown[1:4], ['read', 'damaged', 'missing'], shown[4], 0, cells)
-            tally.same('what it says', json.loads(lup.get(report).decode('utf-8')), wanted)
-        for file in (plan, good, bad, out, report):
-            os.remove(lup.at(file))
+            tally.same('what it says', report_of(lup, report), wanted)
+        for file in filter(os.path.exists, map(lup.at, (plan, good, bad, out, report))):
+            os.remove(file)
     with tally.case('no input'):
         lup.put('c.plan', pack(const(I16, 5)))
         lup.run('run', 'c.plan', '-o', 'out.field', '--report', 'r.json')
-        tally.same('no input', json.loads(lup.get('r.json')), wanted_report('c.plan', const(I16, 5), [], [], [], 'out.field', 0, [5]))
+        tally.same('no input', report_of(lup, 'r.json'), wanted_report('c.plan', const(I16, 5), [], [], [], 'out.field', 0, [5]))
 
 
 def test_limits(tally, lup, rng):
