@@ -1,0 +1,373 @@
+#!/usr/bin/env python3
+"""docs/FORMAT.md: its tables, formulas and examples against the independent model, the assembler, host/plan.c and the header.
+
+usage: test_format.py     last line: 'N passed, 0 failed'
+"""
+
+import os
+import re
+import struct
+import subprocess
+import sys
+import tempfile
+from itertools import permutations, product
+from math import prod
+
+sys.dont_write_bytecode = True
+ROOT = os.path.dirname(os.path.dirname(os.path.dirname(os.path.abspath(__file__))))
+sys.path[:0] = [os.path.join(ROOT, part) for part in ('host', 'tests/model', 'tests/tools')]
+
+import lupasm  # noqa: E402
+import model  # noqa: E402
+from counting import Cases  # noqa: E402
+
+# Words of a node, by the names of section 1.
+WORDS = {'operation': (0,), 'sources': (1, 2, 3), 'type': (lupasm.TYPE,), 'number': (lupasm.NUMBER,), 'device': (lupasm.DEVICE,),
+         'low, high': (lupasm.LOW, lupasm.HIGH), 'row A': lupasm.A, 'row B': lupasm.B}
+# What the column 'types of the sources' says, as a test of the sources' types.
+TYPE_RULES = {
+    'no source': lambda *types: not types,
+    'any': lambda *types: True,
+    'not bool': lambda *types: 0 not in types,
+    'alike': lambda *types: len(set(types)) == 1,
+    'alike, not bool': lambda *types: len(set(types)) == 1 and 0 not in types,
+    'bool': lambda *types: set(types) == {0},
+    'the first bool, the others alike': lambda first, *others: first == 0 and len(set(others)) == 1,
+}
+# What the column 'type of the result' says, of word 4 and the sources' types.
+RESULT_TYPES = {
+    'word 4': lambda word, types: word,
+    'that of the source': lambda word, types: types[0],
+    'bool': lambda word, types: 0,
+    'that of source 2': lambda word, types: types[1],
+}
+ENDS = (-32768, -7, -1, 0, 1, 2, 9, 255)
+INTERVALS = [(low, high) for low in ENDS for high in ENDS if low <= high]
+
+
+def read(*parts):
+    with open(os.path.join(ROOT, *parts), encoding='utf-8') as file:
+        return file.read()
+
+
+class Page:
+    """The tables of a page by their heads, and its blocks of code."""
+
+    def __init__(self, text):
+        self.tables, head = {}, None
+        for line in text.split('\n'):
+            cells = [cell.strip().strip('`') for cell in line.split('|')[1:-1]]
+            if not line.startswith('|'):
+                head = None
+            elif head is None:
+                head = ' | '.join(cells)
+                assert head not in self.tables, f'two tables have the head {head}'
+                self.tables[head] = []
+            elif not set(line) <= set('|-'):
+                self.tables[head].append(cells)
+        self.blocks = re.findall(r'^```(\w*)\n(.*?)^```$', text, re.M | re.S)
+
+    def table(self, *head):
+        return self.tables[' | '.join(head)]
+
+
+def numbers_of(text):
+    """'1, 9–12' as 1, 9, 10, 11, 12."""
+    ends = [part.split('–') for part in text.split(', ')]
+    return tuple(number for part in ends for number in range(int(part[0]), int(part[-1]) + 1))
+
+
+def plan_of(text):
+    return lupasm.table_of(text.replace('; ', '\n'))
+
+
+def node_of(op, records, **words):
+    """A node whose sources are these records, in order; words by w4, w5, .."""
+    node = model.Node([op, *range(len(records)), *[0] * (16 - len(records))], records, 0)
+    for word, value in words.items():
+        node.words[int(word[1:])] = value
+    node.row_a, node.row_b = node.words[9:13], node.words[13:17]
+    return node
+
+
+def record(dtype=3, low=0, high=1, extents=()):
+    return model.Record(dtype, 0, low, high, extents)
+
+
+def source_count(op):
+    return sum(word in (1, 2, 3) for word in model.USED_WORDS[op])
+
+
+# ------------------------------------------------------------ sections 1 to 3
+
+def test_words(tally, page):
+    rows = {name: numbers_of(words) for words, name, _ in page.table('word', 'name', 'what it is')}
+    tally.same('words of a node', rows, WORDS)
+    tally.same('each word once', sorted(sum(rows.values(), ())), list(range(model.NODE_WORDS)))
+
+
+def test_limits(tally, page):
+    rows = {name: re.findall('[0-9]+', value) for name, value in page.table('limit', 'value')}
+    limits = {name: tuple(map(int, value)) for name, value in rows.items()}
+    tally.same('limits', limits, {
+        'nodes in a plan': (1, model.MOST_NODES), 'words in a node': (model.NODE_WORDS,), 'rank (number of axes)': (0, len(model.ROW_A)),
+        'extent of an axis': (1, model.LARGEST_EXTENT), 'elements of one node': (model.MOST_NODE_ELEMENTS,),
+        'elements of all nodes together': (model.MOST_PLAN_ELEMENTS,), 'PARAM nodes': (16,), 'devices': (1, 255)})
+    most = limits['PARAM nodes'][0]
+    for count, number in ((most, 0), (most + 1, 7)):
+        text = '; '.join(f'p{k} = param u8 0..1 1 device 1' for k in range(count))
+        tally.same((count, 'PARAMs'), model.verdict(plan_of(text))[0], number)
+    least, greatest = limits['devices']
+    for device in (least - 1, least, greatest, greatest + 1):
+        wanted = 0 if least <= device <= greatest else 7
+        tally.same(('device', device), model.verdict(plan_of(f'p = param u8 0..1 1 device {device}'))[0], wanted)
+
+
+def test_types(tally, page):
+    rows = [(int(number), name, int(least), int(greatest)) for number, name, least, greatest in page.table('type', 'name', 'least', 'greatest')]
+    tally.same('types', rows, [(number, lupasm.TYPES[number], *limits) for number, limits in model.TYPE_LIMITS.items()])
+
+
+def test_operations(tally, page):
+    rows = page.table('number', 'name', 'words used', 'types of the sources', 'type of the result')
+    tally.same('operations', [int(row[0]) for row in rows], list(range(len(model.USED_WORDS))))
+    names = re.search(r'OPERATIONS\[\] = \{(.*?)\}', read('host', 'plan.c'), re.S)[1]
+    tally.same('names of host/plan.c', [row[1] for row in rows], re.findall('[A-Z]+', names))
+    for number, name, words, types, result in rows:
+        op = int(number)
+        tally.same((name, 'number'), getattr(model, name), op)
+        tally.same((name, 'words'), (numbers_of(words), lupasm.USED[op]), (model.USED_WORDS[op],) * 2)
+        with tally.case((name, 'types')):
+            for some in product(range(4), repeat=source_count(op)):
+                node = node_of(op, [record(dtype) for dtype in some], w4=2 * (4 in model.USED_WORDS[op]))
+                good = bool(TYPE_RULES[types](*some))
+                tally.same((name, some, 'accepted'), not model.dtypes_wrong(node), good)
+                if good:
+                    tally.same((name, some, 'type of the result'), RESULT_TYPES[result](node.words[4], some), model.result_dtype(node))
+
+
+def test_values(tally, page):
+    rows = page.table('operation', 'number')
+    tally.same('binary operations', [getattr(model, name) for name, _ in rows], list(model.BINARY))
+    for name, formula in rows:
+        op = getattr(model, name)
+        ends = (0, 1) if name in ('AND', 'OR') else ENDS
+        with tally.case((name, formula)):
+            for x, y in product(ends, repeat=2):
+                if y != 0 or name not in ('IDIV', 'MOD'):
+                    tally.same((name, x, y), eval(formula, {'x': x, 'y': y}), model.binary_value(op, x, y))
+            tally.same((name, 'of a gap'), (model.binary_value(op, None, 1), model.binary_value(op, 1, None)), (None, None))
+    for row in page.table('x', 'y', 'IDIV', 'MOD'):
+        x, y, *results = map(int, row)
+        tally.same(('quotient', x, y), results, [model.binary_value(op, x, y) for op in (model.IDIV, model.MOD)])
+
+
+def rows_for(name, rank):
+    """Pairs of row A and row B to try over a source of that rank."""
+    if name == 'PERMUTE':
+        return [(row, ()) for row in permutations(range(rank))]
+    if name == 'FLIP':
+        return [(row, ()) for row in product((0, 1), repeat=rank)]
+    if name == 'LOAD':
+        return [((), ())]
+    shapes = list(product((1, 2, 4, 6), repeat=rank))
+    return list(product(shapes, product((0, 1, 2), repeat=rank) if name in ('PAD', 'SHRINK') else [()]))
+
+
+def test_movements(tally, page):
+    rows = page.table('operation', 'rank', 'rule on each axis', "result's extent", 'source coordinate j[k]')
+    tally.same('movements', [getattr(model, row[0]) for row in rows], [*range(model.PERMUTE, model.SHRINK + 1), model.LOAD])
+    for name, rank, rule, extent, origin in rows:
+        with tally.case((name, rank, rule, extent, origin)):
+            if name == 'RESHAPE':
+                tally.same(name, (rank, rule, origin), ('any', 'equal element counts', 'the element with the same number'))
+                test_reshape(tally)
+                continue
+            tally.same((name, 'rank'), rank, 'same')
+            for s in [(2,), (4,), (1, 4), (2, 4), (4, 2), *[(2, 3, 4)] * (name in ('PERMUTE', 'FLIP'))]:
+                for A, B in rows_for(name, len(s)):
+                    test_movement(tally, getattr(model, name), dict(s=s, A=A, B=B), (rule or 'True', extent, origin))
+
+
+def test_movement(tally, op, names, formulas):
+    rule, extent, origin = formulas
+    s, axes = names['s'], range(len(names['s']))
+    words = {f'w{first + k}': word for first, row in ((9, names['A']), (13, names['B'])) for k, word in enumerate(row)}
+    node = node_of(op, [record(extents=s)], **words)
+    got = model.result_extents(node)
+    good = all(eval(rule, dict(names, k=k)) for k in axes)
+    tally.same((op, names, 'agrees'), got is not None, good)
+    if not good:
+        return
+    tally.same((op, names, 'extents'), tuple(eval(extent, dict(names, k=k)) for k in axes), got)
+    for i in model.all_coordinates(got):
+        j = tuple(eval(origin, dict(names, i=i, k=k)) for k in axes)
+        inside = all(0 <= j[k] < s[k] for k in axes)
+        tally.holds((op, names, 'a gap'), inside or op == model.PAD)
+        tally.same((op, names, i), j if inside else None, model.source_coordinates(node.words, i, got, s))
+
+
+def test_reshape(tally):
+    for shape, good in (((6,), True), ((3, 2), True), ((1, 6, 1), True), ((5,), False), ((2, 4), False)):
+        node = node_of(model.RESHAPE, [record(extents=(2, 3))], **{f'w{9 + k}': extent for k, extent in enumerate(shape)})
+        tally.same(shape, model.result_extents(node), shape if good else None)
+        for i in model.all_coordinates(shape) if good else ():
+            j = model.source_coordinates(node.words, i, shape, (2, 3))
+            tally.same((shape, i), model.element_at(j, (2, 3)), model.element_at(i, shape))
+
+
+def cells_of(text):
+    return [None if cell == 'gap' else int(cell) for cell in text.split()]
+
+
+def test_examples(tally, page):
+    operations = set()
+    for text, given, shape, bounds, output in page.table('plan', 'input', 'shape', 'bounds', 'output'):
+        table, cells = plan_of(text), cells_of(given)
+        operations |= {table[first] for first in range(0, len(table), model.NODE_WORDS)}
+        number, records = model.verdict(table)
+        tally.same((text, 'accepted'), number, 0)
+        total = sum(prod(node.extents) for node in records)
+        values, flags = [77] * total, [77] * total
+        answer = model.run(table, [99 if cell is None else cell for cell in cells], [int(cell is not None) for cell in cells], values, flags)
+        wanted, last = cells_of(output), records[-1]
+        tally.same((text, 'answer'), answer, (0, 0, wanted.count(None)))
+        got = [value if flag else None for value, flag in zip(values, flags)][total - len(wanted):]
+        tally.same((text, 'output'), (got, len(wanted)), (wanted, prod(last.extents)))
+        tally.same((text, 'shape and bounds'), (shape, bounds), ('x'.join(map(str, last.extents)), f'{last.low}..{last.high}'))
+    tally.holds('most operations are in an example', len(operations) >= 17, operations)
+
+
+# ------------------------------------------------------------------ section 4
+
+def test_bounds(tally, page):
+    rows = {}
+    for names, *formulas in page.table('operation', 'where', 'low', 'high'):
+        for name in names.split(', '):
+            rows.setdefault(getattr(model, name), []).append(formulas)
+    tally.same('each operation has bounds', sorted(rows), list(range(len(model.USED_WORDS))))
+    for op, some in rows.items():
+        bools = op in (model.AND, model.OR)
+        intervals = [(0, 0), (0, 1), (1, 1)] if bools else INTERVALS[::3] if source_count(op) == 3 else INTERVALS
+        with tally.case(('bounds', op, some)):
+            for sources in product(intervals, repeat=source_count(op)):
+                if op in (model.IDIV, model.MOD) and sources[1][0] <= 0 <= sources[1][1]:
+                    continue
+                for number in (0, 1):
+                    node = node_of(op, [record(low=low, high=high, extents=(2, 5, 3)) for low, high in sources], w5=number, w7=-3, w8=12, w9=1, w11=1)
+                    names = dict(zip(('a', 'A', 'b', 'B', 'c', 'C'), sum(sources, ())), number=number, low=-3, high=12, n=6)
+                    low, high = next((low, high) for where, low, high in some if not where or eval(where, names))
+                    tally.same((op, sources, number), (eval(low, names), eval(high, names)), model.result_interval(node))
+    for text, answer in page.table('plan', 'answer'):
+        number, rest = model.verdict(plan_of(text))
+        tally.same(text, f'refused {number} at {rest}' if number else f'{rest[-1].low}..{rest[-1].high}', answer)
+
+
+# ------------------------------------------------------------------ section 6
+
+def placed():
+    """For each number an answer of the model that has it, with a place that is not 0 where one is named."""
+    fine = 'p = param u8 0..9 2 device 1; '
+    bad = {4: 'node 9 1=0 2=1', 5: 'node 8 1=0 4=4', 6: 'and p p', 7: 'permute p 1', 8: 'reshape p 3', 10: 'idiv p p', 11: 'const u8 256'}
+    for number, line in bad.items():
+        yield number, model.check(plan_of(fine + 'q = ' + line), [0] * 16)
+    table = plan_of(fine + 'q = const u8 1')
+    yield 2, model.check([*table[:17], 21, *table[18:]], [0] * 16)
+    yield 3, model.check([*table[:33], 1], [0] * 16)
+    yield 9, model.check(plan_of('p = param u8 0..9 2 device 1; q = load p device 2; r = add p q'), [0] * 24)
+    yield 1, model.check(table[:-1], [0] * 16)
+    yield 14, model.check(table, [0] * 15)
+    yield 12, model.check(plan_of('; '.join(['p = param u8 0..9 1048576 device 1', *(f'q{k} = flip p 0' for k in range(4))])), [0] * 40)
+    yield 13, model.run(table, [1], [1, 1], [0] * 3, [0] * 3)
+    yield 15, model.run(table, [1, 1], [1, 2], [0] * 3, [0] * 3)
+    yield 16, model.run(table, [1, 10], [1, 1], [0] * 3, [0] * 3)
+    yield 17, model.lookup(table, 1, 1)
+    for number, data in ((20, '01 00 80'), (21, '01 00 80 00'), (22, '01 00 04 0A 00'), (23, '00'), (24, '01 15')):
+        yield number, model.unpack(bytes.fromhex(data), [0] * 17)
+
+
+def test_refusals(tally, page):
+    rows = {int(number): (when, place) for number, when, place in page.table('number', 'given when', 'place')}
+    rules = re.search(r'RULES\[\] = \{(.*?)\n\};', read('host', 'plan.c'), re.S)[1]
+    wanted = {int(number): words for number, words in re.findall(r'\[(\d+)\] = "(.*)",', rules)}
+    tally.same('numbers', sorted(rows), sorted(wanted))
+    for number, words in wanted.items():
+        tally.same((number, 'words'), rows[number][0], words)
+    answers = dict(placed())
+    tally.same('each number is given', sorted(answers), sorted(rows))
+    places = {'node': lambda place: place in (1, 2), 'position': lambda place: place == 1, 'byte': lambda place: place > 0, '0': lambda place: place == 0}
+    for number, answer in answers.items():
+        tally.same((number, 'given'), answer[0], number)
+        tally.holds((number, 'place'), places[rows[number][1]](answer[1]), answer)
+
+
+# ------------------------------------------------------------------ section 7
+
+def test_packed(tally, page):
+    for word, written, coded in page.table('word', 'written as', 'bytes'):
+        data = bytes.fromhex(coded)
+        tally.same((word, 'written'), lupasm.number_bytes(int(written)), data)
+        tally.same((word, 'read'), model.read_number(data, 0), (int(written), len(data)))
+        tally.same((word, 'as'), model.word_of(int(written)), int(word))
+    listings = [text for language, text in page.blocks if text.startswith('node op')]
+    rows = page.table('text', 'bytes')
+    tally.same('listings', len(listings), len(rows))
+    for (text, coded), listing in zip(rows, listings):
+        tally.same((text, 'packed'), lupasm.assemble(text.replace('; ', '\n')), bytes.fromhex(coded))
+        tally.same((text, 'listed'), model.listing(bytes.fromhex(coded)).decode(), listing)
+        table = [0] * len(plan_of(text))
+        model.unpack(bytes.fromhex(coded), table)
+        tally.same((text, 'unpacked'), table, plan_of(text))
+
+
+def test_prose(tally, page, text):
+    longest = 1 + 5 * max(map(len, model.USED_WORDS))
+    size = 2 + model.MOST_NODES * longest
+    words = ' '.join(text.split())
+    tally.holds('the most bytes', f'2 + {model.MOST_NODES}·{longest} = {size} bytes' in words)
+    tally.holds('what the programs read', f'the first {model.MOST_LISTING_BYTES} bytes' in words)
+    tally.holds('no bytes', f'`{model.listing(b"").decode().strip()}`' in words)
+    tally.holds('the size of a field file', '16 + 8·rank + 9·count bytes' in words)
+    tally.same('it needs no other text', re.findall(r'(?i)\bpapers?\b|§|\b0[12]\b(?=[ ,.](?!04|00|0A))', re.sub('`[^`]*`', '', text)), [])
+    tally.same('line lengths outside tables', [line for line in text.split('\n') if len(line) > 165 and not line.startswith('|')], [])
+    example = next(block for language, block in page.blocks if ' = greatest ' in block)
+    tally.same('the example of the text form', (len(example.splitlines()), model.verdict(lupasm.table_of(example))[0]), (3, 0))
+    stacks = re.findall(r'(\d+ KiB) is enough\. \*/\n\w+ (lup_\w+)\(', read('include', 'lupetzarin.h'))
+    tally.same('stack', page.table('call', 'stack that is enough'), [[call, stack] for stack, call in stacks])
+    tally.same('calls', [row[0] for row in page.table('call', 'order')], ['lup_check', 'lup_run', 'lup_lookup', 'lup_unpack', 'lup_unpack_check'])
+
+
+# ------------------------------------------------------------------ section 9
+
+def test_field(tally, page):
+    """The snippet as it is printed; its file against struct, and against the table of parts."""
+    snippet = next(block for language, block in page.blocks if language == 'python')
+    with tempfile.TemporaryDirectory() as folder:
+        done = subprocess.run([sys.executable, '-c', snippet], cwd=folder, capture_output=True, text=True, timeout=60, check=False)
+        tally.same('the snippet runs', (done.returncode, done.stdout, done.stderr, os.listdir(folder)), (0, '', '', ['strip.field']))
+        with open(os.path.join(folder, 'strip.field'), 'rb') as file:
+            data = file.read()
+    extents, values, flags = (2, 3), (7, -1, 0, 0, 300, 12), (1, 1, 0, 1, 1, 1)
+    tally.same('the bytes', data, struct.pack('<8s3Q6q6B', b'LUPFIELD', 2, *extents, *values, *flags))
+    tally.same('the size', len(data), 16 + 8 * len(extents) + 9 * len(values))
+    parts, at = {}, 0
+    for name, size, _ in page.table('part', 'bytes', 'what'):
+        end = at + eval(size.replace('·', '*'), {'rank': len(extents), 'count': len(values)})
+        parts[name], at = data[at:end], end
+    wanted = {'magic': b'LUPFIELD', 'rank': struct.pack('<Q', 2), 'extents': struct.pack('<2Q', *extents), 'values': struct.pack('<6q', *values),
+              'flags': bytes(flags)}
+    tally.same('the parts', (parts, at), (wanted, len(data)))
+
+
+def main():
+    tally = Cases()
+    text = read('docs', 'FORMAT.md')
+    page = Page(text)
+    for test in (test_words, test_limits, test_types, test_operations, test_movements, test_values, test_examples, test_bounds, test_refusals, test_packed, test_field):
+        test(tally, page)
+    test_prose(tally, page, text)
+    tally.finish()
+
+
+if __name__ == '__main__':
+    main()
