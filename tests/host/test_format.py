@@ -10,7 +10,7 @@ import struct
 import subprocess
 import sys
 import tempfile
-from itertools import permutations, product
+from itertools import combinations, permutations, product
 from math import prod
 
 sys.dont_write_bytecode = True
@@ -255,7 +255,7 @@ def test_bounds(tally, page):
                     continue
                 for number in (0, 1):
                     node = node_of(op, [record(low=low, high=high, extents=(2, 5, 3)) for low, high in sources], w5=number, w7=-3, w8=12, w9=1, w11=1)
-                    names = dict(zip(('a', 'A', 'b', 'B', 'c', 'C'), sum(sources, ())), number=number, low=-3, high=12, n=6)
+                    names = dict(zip('aAbBcC', sum(sources, ())), number=number, low=-3, high=12, n=6)
                     low, high = next((low, high) for where, low, high in some if not where or eval(where, names))
                     tally.same((op, sources, number), (eval(low, names), eval(high, names)), model.result_interval(node))
     for text, answer in page.table('plan', 'answer'):
@@ -265,9 +265,13 @@ def test_bounds(tally, page):
 
 # ------------------------------------------------------------------ section 6
 
+# The places of the answers below, by what the column 'place' says.
+PLACES = {'0': (0,), 'node': (1, 2), 'byte': (4, 5), 'position': (7,)}
+
+
 def placed():
-    """For each number an answer of the model that has it, with a place that is not 0 where one is named."""
-    fine = 'p = param u8 0..9 2 device 1; '
+    """For each number an answer of the model that has it; PLACES tells the kinds of place apart."""
+    fine = 'p = param u8 0..9 8 device 1; '
     bad = {4: 'node 9 1=0 2=1', 5: 'node 8 1=0 4=4', 6: 'and p p', 7: 'permute p 1', 8: 'reshape p 3', 10: 'idiv p p', 11: 'const u8 256'}
     for number, line in bad.items():
         yield number, model.check(plan_of(fine + 'q = ' + line), [0] * 16)
@@ -278,12 +282,12 @@ def placed():
     yield 1, model.check(table[:-1], [0] * 16)
     yield 14, model.check(table, [0] * 15)
     yield 12, model.check(plan_of('; '.join(['p = param u8 0..9 1048576 device 1', *(f'q{k} = flip p 0' for k in range(4))])), [0] * 40)
-    yield 13, model.run(table, [1], [1, 1], [0] * 3, [0] * 3)
-    yield 15, model.run(table, [1, 1], [1, 2], [0] * 3, [0] * 3)
-    yield 16, model.run(table, [1, 10], [1, 1], [0] * 3, [0] * 3)
+    yield 13, model.run(table, [1], [1] * 8, [0] * 9, [0] * 9)
+    yield 15, model.run(table, [1] * 8, [1] * 7 + [2], [0] * 9, [0] * 9)
+    yield 16, model.run(table, [1] * 7 + [10], [1] * 8, [0] * 9, [0] * 9)
     yield 17, model.lookup(table, 1, 1)
-    for number, data in ((20, '01 00 80'), (21, '01 00 80 00'), (22, '01 00 04 0A 00'), (23, '00'), (24, '01 15')):
-        yield number, model.unpack(bytes.fromhex(data), [0] * 17)
+    for number, data in ((20, '02 00 04 0A 00 80'), (21, '02 00 04 0A 00 80 00'), (22, '01 00 04 0A 00'), (23, '00'), (24, '02 00 04 0A 15')):
+        yield number, model.unpack(bytes.fromhex(data), [0] * 34)
 
 
 def test_refusals(tally, page):
@@ -292,13 +296,51 @@ def test_refusals(tally, page):
     wanted = {int(number): words for number, words in re.findall(r'\[(\d+)\] = "(.*)",', rules)}
     tally.same('numbers', sorted(rows), sorted(wanted))
     for number, words in wanted.items():
-        tally.same((number, 'words'), rows[number][0], words)
+        tally.same((number, 'words'), rows.get(number, ('', ''))[0], words)
     answers = dict(placed())
     tally.same('each number is given', sorted(answers), sorted(rows))
-    places = {'node': lambda place: place in (1, 2), 'position': lambda place: place == 1, 'byte': lambda place: place > 0, '0': lambda place: place == 0}
     for number, answer in answers.items():
         tally.same((number, 'given'), answer[0], number)
-        tally.holds((number, 'place'), places[rows[number][1]](answer[1]), answer)
+        tally.holds((number, 'place'), answer[1] in PLACES.get(rows.get(number, ('', ''))[1], ()), answer)
+
+
+def answered(call, faults):
+    """The number that the model's call gives where these faults are made together."""
+    lines = ['p = param u8 0..9 8 device 1']
+    if 12 in faults:
+        lines += ['q = param u8 0..9 1048576 device 1', *(f'q{k} = flip q 0' for k in range(4))]
+    if 11 in faults:
+        lines.append('r = const u8 256')
+    table, data = plan_of('; '.join(lines)), bytearray(lupasm.assemble('\n'.join(lines)))
+    table = table[:len(table) - (1 in faults)]
+    data[0] *= 23 not in faults
+    data[1] = 21 if 24 in faults else data[1]
+    data += bytes(22 in faults)
+    room = [0] * (0 if 14 in faults else 170)
+    if call == 'lup_check':
+        return model.check(table, room).number
+    if call == 'lup_run':
+        return model.run(table, [1] * (8 - (13 in faults)), [1] * 7 + [1 + (15 in faults)], room, list(room)).number
+    if call == 'lup_lookup':
+        return model.lookup(table, 999 if 17 in faults else 0, 0).number
+    return model.unpack(data, room).number if call == 'lup_unpack' else model.unpack_check(data) // 65536
+
+
+def test_order(tally, page):
+    """Of any two steps of a call the earlier one decides where both are due."""
+    every = set()
+    for call, cell in page.table('call', 'order'):
+        steps = [numbers_of(step) for step in re.sub(r' \([^)]*\)', '', cell).split('; ')]
+        faults = [next(fault for fault in (1, 11, 12, 13, 14, 15, 17, 22, 23, 24) if fault in step) for step in steps]
+        every |= set(sum(steps, ()))
+        for fault in faults:
+            tally.same((call, fault), answered(call, {fault}), fault)
+        for first, second in combinations(faults, 2):
+            tally.same((call, first, second), answered(call, {first, second}), first)
+        for fault in {1, 11, 12, 13, 14, 15, 17, 22, 23, 24} - set(faults):
+            tally.holds((call, 'never', fault), answered(call, {fault}) != fault)
+    numbers = [int(row[0]) for row in page.table('number', 'given when', 'place')]
+    tally.same('every number is given by a call', sorted(every), numbers)
 
 
 # ------------------------------------------------------------------ section 7
@@ -363,7 +405,8 @@ def main():
     tally = Cases()
     text = read('docs', 'FORMAT.md')
     page = Page(text)
-    for test in (test_words, test_limits, test_types, test_operations, test_movements, test_values, test_examples, test_bounds, test_refusals, test_packed, test_field):
+    for test in (test_words, test_limits, test_types, test_operations, test_movements, test_values, test_examples, test_bounds, test_refusals, test_order,
+                 test_packed, test_field):
         test(tally, page)
     test_prose(tally, page, text)
     tally.finish()
