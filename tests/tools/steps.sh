@@ -51,12 +51,17 @@ step() {
     count "$name" "$status"
 }
 
-# beside NAME COMMAND..: one step beside those that follow; collect waits for all of them
+# beside NAME COMMAND..: one step beside those that follow; collect waits for all of them. The step leaves its status in
+# a file: bash forgets that of a process that has ended once another child gets its number.
 beside() {
     local name=$1
     shift
     opened "$name" || return
-    "$@" >"$logs/$name" 2>&1 &
+    (
+        status=0
+        "$@" >"$logs/$name" 2>&1 || status=$?
+        echo "$status" >"$logs/$name.status"
+    ) &
     others+=("$name $!")
 }
 
@@ -64,9 +69,9 @@ collect() {
     local other name pid status
     for other in "${others[@]}"; do
         read -r name pid <<<"$other"
-        status=0
-        wait "$pid" || status=$?
-        count "$name" "$status"
+        wait "$pid" 2>/dev/null || :
+        status=$(cat "$logs/$name.status" 2>/dev/null) || :
+        count "$name" "${status:-127}"
     done
     others=()
 }

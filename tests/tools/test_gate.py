@@ -96,6 +96,14 @@ def test_steps(tally):
                        (1, FIRST, f'== made: FAILED: {reason}', 'FAILED: made'))
         text = told(f'{way} made ./none\nfinish')[1]
         tally.same((way, 'no such program'), text.split('\n')[0], '== made: FAILED: status 127')
+    # what bash answers of a process that it has forgotten
+    forgotten = 'wait() { builtin wait "$@"; echo not a child >&2; return 127; }\n'
+    for status, wanted in ((0, (0, shown('== made: 3 passed, 0 failed', '3 passed, 0 failed'))),
+                           (4, (1, shown('== made: FAILED: status 4', '    3 passed, 0 failed', 'FAILED: made')))):
+        does = quote(f'echo 3 passed, 0 failed; exit {status}')
+        tally.same(('forgotten', status), told(f'{forgotten}beside made sh -c {does}\nfinish'), wanted)
+    killed = 'beside made sh -c "echo 3 passed, 0 failed; kill -KILL \\$PPID"\nfinish'
+    tally.same('no status is left', told(killed), (1, shown('== made: FAILED: status 127', '    3 passed, 0 failed', 'FAILED: made')))
 
 
 def test_shown(tally):
