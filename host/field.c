@@ -9,8 +9,10 @@
 #include <string.h>
 
 #define MAGIC "LUPFIELD"
+#define RANGE_MAGIC "LUPRANGE"
 #define MAGIC_BYTES 8
 #define WORD_BYTES 8
+#define RANGE_BYTES (MAGIC_BYTES + 2 * WORD_BYTES)
 
 static uint64_t word_at(const uint8_t *bytes) {
     uint64_t word = 0;
@@ -71,15 +73,29 @@ int allocate_cells(size_t count, int64_t **values, uint8_t **flags) {
     return 0;
 }
 
-/* The values and flags, after which the file ends. The values' bytes are read into their own place and put in order there. */
+/* The bounds, or nothing; after either the file ends. */
+static int read_range(FILE *file, field *f, fault *why) {
+    uint8_t bytes[RANGE_BYTES + 1];
+    size_t got = fread(bytes, 1, sizeof bytes, file);
+    if (ferror(file)) return find_fault(why, 0, "it cannot be read: %s", strerror(errno));
+    if (got == 0) return DONE;
+    if (got > RANGE_BYTES || memcmp(bytes, RANGE_MAGIC, got < MAGIC_BYTES ? got : MAGIC_BYTES) != 0)
+        return find_fault(why, 1, "not a field: there are bytes after its last flag");
+    if (got < RANGE_BYTES) return find_fault(why, 1, "not a field: it ends inside its bounds, %zu bytes short", RANGE_BYTES - got);
+    f->ranged = 1;
+    f->low = (int64_t)word_at(bytes + MAGIC_BYTES);
+    f->high = (int64_t)word_at(bytes + MAGIC_BYTES + WORD_BYTES);
+    if (f->low <= f->high) return DONE;
+    return find_fault(why, 1, "not a field: its bounds are %" PRId64 "..%" PRId64 ", low above high", f->low, f->high);
+}
+
+/* The values and flags. The values' bytes are read into their own place and put in order there. */
 static int read_cells(FILE *file, field *f, fault *why) {
     if (read_part(file, "values", (uint8_t *)f->values, f->count * sizeof *f->values, why) != DONE) return MISUSED;
     for (size_t k = 0; k < f->count; k++) f->values[k] = (int64_t)word_at((const uint8_t *)&f->values[k]);
     if (read_part(file, "flags", f->flags, f->count, why) != DONE) return MISUSED;
     for (size_t k = 0; k < f->count; k++)
         if (f->flags[k] > 1) return find_fault(why, 1, "not a field: the flag of element %zu is %u, neither 0 nor 1", k, (unsigned)f->flags[k]);
-    if (fgetc(file) != EOF) return find_fault(why, 1, "not a field: there are bytes after its last flag");
-    if (ferror(file)) return find_fault(why, 0, "it cannot be read: %s", strerror(errno));
     return DONE;
 }
 
@@ -88,7 +104,7 @@ int read_field(FILE *file, field *f, fault *why) {
     if (read_shape(file, &f->shape, why) != DONE) return MISUSED;
     f->count = element_count(&f->shape);
     if (!allocate_cells(f->count, &f->values, &f->flags)) return find_fault(why, 0, "there is no memory for %zu elements", f->count);
-    if (read_cells(file, f, why) == DONE) return DONE;
+    if (read_cells(file, f, why) == DONE && read_range(file, f, why) == DONE) return DONE;
     free_field(f);
     return MISUSED;
 }
@@ -99,6 +115,10 @@ void write_field(FILE *file, const field *f) {
     for (size_t axis = 0; axis < f->shape.rank; axis++) put_word(file, f->shape.extents[axis]);
     for (size_t k = 0; k < f->count; k++) put_word(file, f->flags[k] == 1 ? (uint64_t)f->values[k] : 0);
     fwrite(f->flags, 1, f->count, file);
+    if (!f->ranged) return;
+    fwrite(RANGE_MAGIC, 1, MAGIC_BYTES, file);
+    put_word(file, (uint64_t)f->low);
+    put_word(file, (uint64_t)f->high);
 }
 
 void free_field(field *f) {
@@ -118,16 +138,4 @@ field_range range_of(const field *f) {
     }
     r.gaps = f->count - r.known;
     return r;
-}
-
-size_t step_of(const field_range *r, int64_t value, size_t steps) {
-    /* Differences of any two numbers of 64 bits fit into unsigned ones; they are halved until the product fits too. */
-    uint64_t above = (uint64_t)value - (uint64_t)r->least, span = (uint64_t)r->greatest - (uint64_t)r->least;
-    while (span > UINT64_MAX / steps) {
-        above /= 2;
-        span /= 2;
-    }
-    if (span == 0) return steps / 2;
-    size_t step = (size_t)(above * steps / span);
-    return step < steps ? step : steps - 1;
 }

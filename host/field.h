@@ -1,4 +1,4 @@
-/* Field files: 'LUPFIELD', rank, extents, values, flags. */
+/* Field files: 'LUPFIELD', rank, extents, values, flags; then 'LUPRANGE', low and high, or nothing. */
 #ifndef FIELD_H
 #define FIELD_H
 
@@ -8,12 +8,15 @@
 
 #define FAULT_TEXT 320
 
-/* count elements; a flag is 1 for a known number and 0 for a gap, whose value means nothing. */
+/* count elements; a flag is 1 for a known number and 0 for a gap, whose value means nothing. ranged: the field has bounds, low..high; what lies outside
+   them is a number like any other. */
 typedef struct {
     shape shape;
     size_t count;
     int64_t *values;
     uint8_t *flags;
+    int ranged;
+    int64_t low, high;
 } field;
 
 /* How many elements are known, and the least and the greatest of them; 0 and 0 where none is. */
@@ -37,14 +40,11 @@ int find_fault(fault *why, int damaged, const char *format, ...) __attribute__((
 /* Reads a field from an open file. DONE; MISUSED with the fault, which is told nowhere yet, and nothing to free. */
 int read_field(FILE *file, field *f, fault *why);
 
-/* Writes a field, its gaps as value 0; whether that worked is left in the file's state. */
+/* Writes a field, its gaps as value 0, and its bounds where it has some; whether that worked is left in the file's state. */
 void write_field(FILE *file, const field *f);
 
 void free_field(field *f);
 
 field_range range_of(const field *f);
-
-/* The place of a value among so many equal steps from least to greatest, at most 256: 0..steps - 1; the middle where the two are the same. */
-size_t step_of(const field_range *r, int64_t value, size_t steps);
 
 #endif

@@ -2,6 +2,7 @@
 #include "job.h"
 #include "message.h"
 #include "output.h"
+#include "source.h"
 
 #include <errno.h>
 #include <inttypes.h>
@@ -47,10 +48,10 @@ static int take_missing(job *j, input *in, int why) {
 }
 
 static int read_input(job *j, input *in) {
-    FILE *file = fopen(in->file, "rb");
+    FILE *file = open_source(in->file);
     if (file == NULL) return take_missing(j, in, errno);
     int status = copy_input(j, in, file);
-    fclose(file);
+    close_source(file);
     if (status == DONE) return DONE;
     if (in->why.damaged && j->damaged_as_gaps) return take_gaps(j, in, DAMAGED);
     return complain("%s: %s", in->file, in->why.text);

@@ -20,8 +20,10 @@ static void write_listing(const plan *p) {
 int list_command(arguments a) {
     option dot = {.name = "--dot"};
     plan p;
-    if (take_options(&a, &dot, 1) != DONE || expect_words(&a, 1, 1, "one PLAN") != DONE) return MISUSED;
-    int status = load_plan(a.words[0], &p);
+    int status = take_options(&a, &dot, 1);
+    if (status == DONE) status = expect_words(&a, 1, 1, "one PLAN");
+    if (status != DONE) return status;
+    status = load_plan(a.words[0], &p);
     if (status == REFUSED && dot.value == NULL) printf("refused %" PRIu64 " at %" PRIu64 "\n", p.refused.number, p.refused.place);
     if (status == DONE && dot.value == NULL) write_listing(&p);
     if (status == DONE && dot.value != NULL) write_dot(&p);
@@ -30,8 +32,9 @@ int list_command(arguments a) {
 
 int check_command(arguments a) {
     plan p;
-    if (take_options(&a, NULL, 0) != DONE || expect_words(&a, 1, 1, "one PLAN") != DONE) return MISUSED;
-    int status = load_plan(a.words[0], &p);
+    int status = take_options(&a, NULL, 0);
+    if (status == DONE) status = expect_words(&a, 1, 1, "one PLAN");
+    if (status == DONE) status = load_plan(a.words[0], &p);
     if (status != DONE) return status;
     size_t elements = total_count(&p);
     printf("accepted: %zu node%s, %zu element%s\n", p.nodes, p.nodes == 1 ? "" : "s", elements, elements == 1 ? "" : "s");

@@ -44,13 +44,18 @@ static int refuse_place(const plan *p, uint64_t node, uint64_t element) {
     return REFUSED;
 }
 
+/* The last element of a node; where there is no such node, the last that one can have. */
+static uint64_t last_element(const plan *p, uint64_t node) { return (node < p->nodes ? facts_of(p, (size_t)node).count : MOST_ELEMENTS) - 1; }
+
 int lookup_command(arguments a) {
     plan p;
     uint64_t node, element;
-    if (take_options(&a, NULL, 0) != DONE || expect_words(&a, 3, 3, "PLAN, NODE and ELEMENT") != DONE) return MISUSED;
-    if (read_number(&a, "NODE", a.words[1], &node) != DONE || read_number(&a, "ELEMENT", a.words[2], &element) != DONE) return MISUSED;
-    int status = load_plan(a.words[0], &p);
+    int status = take_options(&a, NULL, 0);
+    if (status == DONE) status = expect_words(&a, 3, 3, "PLAN, NODE and ELEMENT");
+    if (status == DONE) status = load_plan(a.words[0], &p);
     if (status != DONE) return status;
+    if (read_number(&a, "NODE", a.words[1], p.nodes - 1, &node) != DONE) return MISUSED;
+    if (read_number(&a, "ELEMENT", a.words[2], last_element(&p, node), &element) != DONE) return MISUSED;
     lup_found found = lup_lookup(p.table, p.nodes * NODE_WORDS, node, element);
     if (found.number == 17) return refuse_place(&p, node, element);
     if (found.number != 0) return refuse(&p, found.number, found.place);

@@ -1,6 +1,8 @@
 /* lup: plans and fields from the command line, by the proved library. */
 #include "commands.h"
 #include "message.h"
+#include "source.h"
+#include "version.h"
 
 #include <stdio.h>
 #include <string.h>
@@ -10,6 +12,9 @@ typedef struct {
     int (*call)(arguments a);
 } command;
 
+static const char WORDS[] = "Options may stand anywhere among the words (-oFILE or -o FILE, --node=1 or --node 1; long names in full); after '--' there\n"
+                            "are none. '-' is standard input in place of one file that is read, and standard output in place of one that is written:\n"
+                            "what was written is told on standard error then. './-' is a file of that name.\n";
 static const char STATUSES[] = "Exit status: 0 done; 1 refused: by the library, with number, place and rule on standard error, or by run for too many missing\n"
                                "inputs; 2 misuse, or a file that cannot be read or written; 3 done, with inputs missing or damaged (run).\n";
 
@@ -44,10 +49,16 @@ static const command COMMANDS[] = {
      "other node, or to the PAD that put a gap there. Nodes, elements, rows and columns are counted from 0.\n",
      lookup_command},
     {"show",
-     "lup show FIELD [--svg FILE]\n\n"
-     "Draws a field, rows down and columns across, two characters a cell: shades from the least known number to the greatest, // for a gap.\n"
+     "lup show FIELD [--svg FILE | --png FILE] [--low N] [--high N] [--title TEXT] [--unit TEXT]\n\n"
+     "Draws a field, rows down and columns across, two characters a cell: shades from the low end of the scale to the high one, // for a\n"
+     "gap. The scale is the bounds that lup run wrote with the field; without them, the least known number to the greatest.\n"
      "Fields of rank 3 and 4 are drawn as one picture after another. Wide fields: lup show bay.field | less -S\n"
-     "--svg FILE   an SVG picture in FILE instead\n",
+     "--svg FILE     an SVG picture in FILE instead\n"
+     "--png FILE     a PNG picture of the cells alone in FILE instead, gaps in red; its scale is told on standard output\n"
+     "--low N        the scale begins at N: smaller numbers are drawn like N, and counted under the picture\n"
+     "--high N       the scale ends at N: greater numbers are drawn like N, and counted under the picture\n"
+     "--title TEXT   over the picture, instead of the file's name and the shape\n"
+     "--unit TEXT    what the numbers are, beside the scale\n",
      show_command},
 };
 #define COMMAND_COUNT (sizeof COMMANDS / sizeof COMMANDS[0])
@@ -55,33 +66,34 @@ static const command COMMANDS[] = {
 static void write_usage(FILE *file) {
     fputs("usage:\n", file);
     for (size_t k = 0; k < COMMAND_COUNT; k++) fprintf(file, "    %.*s\n", (int)strcspn(COMMANDS[k].help, "\n"), COMMANDS[k].help);
-    fputs("    lup --help, lup COMMAND --help\n", file);
+    fputs("    lup --help, lup COMMAND --help (or -h), lup --version\n", file);
 }
 
 static int write_help(const command *c) {
     if (c == NULL) write_usage(stdout);
-    printf("%s\n%s", c != NULL ? c->help : "", STATUSES);
+    printf("%s\n%s%s", c != NULL ? c->help : "", WORDS, STATUSES);
     return finish_output();
 }
 
-/* Whether --help stands among the words before '--'. */
-static int asks_help(const arguments *a) {
-    for (size_t k = 0; k < a->count && strcmp(a->words[k], "--") != 0; k++)
-        if (strcmp(a->words[k], "--help") == 0) return 1;
-    return 0;
+static int write_version(void) {
+    puts("lup " LUP_VERSION_TEXT);
+    return finish_output();
 }
 
 int main(int argc, char **argv) {
+    if (!hold_places()) return MISUSED;
     if (argc < 2) {
         complain("no command is given");
         write_usage(stderr);
         return MISUSED;
     }
-    if (strcmp(argv[1], "--help") == 0) return write_help(NULL);
+    if (strcmp(argv[1], "-h") == 0 || strcmp(argv[1], "--help") == 0) return write_help(NULL);
+    if (strcmp(argv[1], "--version") == 0) return write_version();
     for (size_t k = 0; k < COMMAND_COUNT; k++) {
         arguments a = {.command = argv[1], .words = argv + 2, .count = (size_t)argc - 2};
         if (strcmp(argv[1], COMMANDS[k].name) != 0) continue;
-        return asks_help(&a) ? write_help(&COMMANDS[k]) : COMMANDS[k].call(a);
+        int status = COMMANDS[k].call(a);
+        return status == HELP_ASKED ? write_help(&COMMANDS[k]) : status;
     }
     complain("there is no command '%s'", argv[1]);
     write_usage(stderr);

@@ -2,8 +2,8 @@
 #ifndef MESSAGE_H
 #define MESSAGE_H
 
-/* INCOMPLETE: done, with inputs that were missing or damaged. */
-enum { DONE = 0, REFUSED = 1, MISUSED = 2, INCOMPLETE = 3 };
+/* INCOMPLETE: done, with inputs that were missing or damaged. HELP_ASKED is no exit status: a command's words ask for its help. */
+enum { DONE = 0, REFUSED = 1, MISUSED = 2, INCOMPLETE = 3, HELP_ASKED = 4 };
 
 /* Writes 'lup: ' and the message, as a line; gives MISUSED. */
 int complain(const char *format, ...) __attribute__((format(printf, 1, 2)));

@@ -1,6 +1,8 @@
 #include "plan.h"
 
 #include "message.h"
+#include "source.h"
+#include "text.h"
 
 #include <errno.h>
 #include <inttypes.h>
@@ -85,16 +87,24 @@ int refuse(const plan *p, uint64_t number, uint64_t place) {
 }
 
 static int read_bytes(const char *name, uint8_t bytes[MOST_BYTES], size_t *count) {
-    FILE *file = fopen(name, "rb");
+    FILE *file = open_source(name);
     if (file == NULL) return complain("%s: the plan cannot be opened: %s", name, strerror(errno));
     *count = fread(bytes, 1, MOST_BYTES, file);
     int failed = ferror(file), why = errno;
-    fclose(file);
+    close_source(file);
     return failed ? complain("%s: the plan cannot be read: %s", name, strerror(why)) : DONE;
 }
 
+/* What the library refuses may be a text that was not assembled. */
+static int refuse_bytes(const plan *p, const uint8_t *bytes, size_t count) {
+    int status = refuse(p, p->refused.number, p->refused.place);
+    if (looks_like_plan_text(bytes, count))
+        complain("%s: this looks like the text of a plan; assemble it first: python3 host/lupasm.py %s -o PLAN", p->name, p->name);
+    return status;
+}
+
 int load_plan(const char *name, plan *p) {
-    uint8_t bytes[MOST_BYTES];
+    uint8_t bytes[MOST_BYTES + 1] = {0};
     size_t count = 0;
     memset(p, 0, sizeof *p);
     p->name = name;
@@ -103,7 +113,7 @@ int load_plan(const char *name, plan *p) {
     lup_answer unpacked = lup_unpack(bytes, count, p->table, MOST_NODES * NODE_WORDS);
     if (code > MOST_NODES) {
         p->refused = (lup_answer){.number = code / 65536, .place = code % 65536};
-        return refuse(p, p->refused.number, p->refused.place);
+        return refuse_bytes(p, bytes, count);
     }
     p->nodes = (size_t)code;
     lup_answer checked = lup_check(p->table, p->nodes * NODE_WORDS, p->derived, MOST_NODES * DERIVED_WORDS);

@@ -1,20 +1,10 @@
 /* The report of lup run: JSON. */
 #include "job.h"
+#include "text.h"
 
 #include <inttypes.h>
 
 static const char *const STATES[] = {[READ] = "read", [MISSING] = "missing", [DAMAGED] = "damaged"};
-
-/* The bytes of the UTF-8 character that begins here, 1 to 4; 0 where none does. The text ends with a 0. */
-static size_t character_length(const unsigned char *c) {
-    if (c[0] < 0x80) return 1;
-    size_t length = c[0] < 0xc2 ? 0 : c[0] < 0xe0 ? 2 : c[0] < 0xf0 ? 3 : c[0] < 0xf5 ? 4 : 0;
-    for (size_t k = 1; k < length; k++)
-        if ((c[k] & 0xc0) != 0x80) return 0;
-    /* Not in the shortest form, a half of a pair of UTF-16, above 10FFFF. */
-    int wrong = (c[0] == 0xe0 && c[1] < 0xa0) || (c[0] == 0xf0 && c[1] < 0x90) || (c[0] == 0xed && c[1] > 0x9f) || (c[0] == 0xf4 && c[1] > 0x8f);
-    return wrong ? 0 : length;
-}
 
 /* A JSON text. A byte that is no part of a UTF-8 character becomes the character for such bytes, U+FFFD. */
 static void put_text(FILE *file, const char *text) {

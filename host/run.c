@@ -3,6 +3,7 @@
 #include "job.h"
 #include "message.h"
 #include "output.h"
+#include "source.h"
 
 #include <inttypes.h>
 #include <stdlib.h>
@@ -37,19 +38,26 @@ static int compute(job *j) {
     return refuse(&j->plan, a.number, a.place);
 }
 
-/* A node's part of the results. */
+/* A node's part of the results, with the bounds that the check derived for it. */
 static field result_of(const job *j) {
     size_t start = 0;
     for (size_t node = 0; node < j->node; node++) start += facts_of(&j->plan, node).count;
     node_facts f = facts_of(&j->plan, j->node);
-    return (field){.shape = f.shape, .count = f.count, .values = j->out_values + start, .flags = j->out_flags + start};
+    return (field){.shape = f.shape,
+                   .count = f.count,
+                   .values = j->out_values + start,
+                   .flags = j->out_flags + start,
+                   .ranged = 1,
+                   .low = f.low,
+                   .high = f.high};
 }
 
 /* The two files, report NULL where there is none, are on the disk before either has its name. */
 static int keep_files(output *written, output *report) {
     if (settle_output(written) != DONE || (report != NULL && settle_output(report) != DONE)) return MISUSED;
-    if (name_output(written) != DONE) return MISUSED;
-    return report != NULL ? name_output(report) : DONE;
+    if (name_output(written) != DONE || (report != NULL && name_output(report) != DONE)) return MISUSED;
+    int settled = settle_name(written);
+    return report != NULL && settle_name(report) != DONE ? MISUSED : settled;
 }
 
 /* The field, and the report in its open file. */
@@ -72,15 +80,17 @@ static int write_result(const job *j) {
     if (j->report != NULL) end_output(&report);
     if (status != DONE) return status;
     write_shape(&f.shape, text);
-    printf("written: %s, node %zu (%s) of shape %s, %zu of %zu cells are gaps\n", j->written, j->node, operation_name(word_of(&j->plan, j->node, 0)), text,
-           range_of(&f).gaps, f.count);
-    if (j->report != NULL) printf("written: %s, the report\n", j->report);
+    FILE *told = told_on(j->written, j->report);
+    fprintf(told, "written: %s, node %zu (%s) of shape %s, %zu of %zu cells are gaps\n", j->written, j->node,
+            operation_name(word_of(&j->plan, j->node, 0)), text, range_of(&f).gaps, f.count);
+    if (j->report != NULL) fprintf(told, "written: %s, the report\n", j->report);
     return finish_output();
 }
 
 /* What a run reads and writes, before anything is opened. */
 static int expect_names(const arguments *a, const job *j) {
-    if (j->report != NULL && names_one_file(j->report, j->written)) return complain("%s: the field and the report are one file; nothing was done", j->report);
+    if (expect_one_standard(a->command, a->words, a->count) != DONE) return MISUSED;
+    if (j->report != NULL && written_as_one(j->report, j->written)) return complain("%s: the field and the report are one file; nothing was done", j->report);
     for (size_t k = 0; k < a->count; k++) {
         if (a->words[k][0] == '\0') return complain("run: a file name is empty, word %zu after run", k + 1);
         if (expect_apart(j->written, a->words[k]) != DONE) return MISUSED;
@@ -91,9 +101,9 @@ static int expect_names(const arguments *a, const job *j) {
 
 /* The node whose field is asked for: the last one, or that of --node. */
 static int choose_node(const arguments *a, job *j, const char *word) {
-    uint64_t node = j->plan.nodes - 1;
-    if (word != NULL && read_number(a, "--node", word, &node) != DONE) return MISUSED;
-    if (node >= j->plan.nodes) return complain("run: --node %" PRIu64 ": the last node of %s is %zu", node, j->plan.name, j->plan.nodes - 1);
+    uint64_t last = j->plan.nodes - 1, node = last;
+    if (word != NULL && read_number(a, "--node", word, last, &node) != DONE) return MISUSED;
+    if (node > last) return complain("run: --node %" PRIu64 ": the nodes of %s are 0..%" PRIu64, node, j->plan.name, last);
     j->node = (size_t)node;
     return DONE;
 }
@@ -124,15 +134,16 @@ int run_command(arguments a) {
                                     [DAMAGED_AS_GAPS] = {.name = "--damaged-as-gaps"},
                                     [REPORT] = {.name = "--report", .takes_value = 1}};
     job j = {.most_absent = 1};
-    if (take_options(&a, options, OPTION_COUNT) != DONE) return MISUSED;
-    if (expect_words(&a, 1, 1 + MOST_PARAMS, "one PLAN and at most 16 INPUTs") != DONE) return MISUSED;
+    int status = take_options(&a, options, OPTION_COUNT);
+    if (status == DONE) status = expect_words(&a, 1, 1 + MOST_PARAMS, "one PLAN and at most 16 INPUTs");
+    if (status != DONE) return status;
     if (options[WRITTEN].value == NULL) return complain("run: -o FIELD is not given; see lup run --help");
-    if (options[ABSENT].value != NULL && read_number(&a, "--missing", options[ABSENT].value, &j.most_absent) != DONE) return MISUSED;
+    if (options[ABSENT].value != NULL && read_number(&a, "--missing", options[ABSENT].value, UINT64_MAX, &j.most_absent) != DONE) return MISUSED;
     j.written = options[WRITTEN].value;
     j.report = options[REPORT].value;
     j.damaged_as_gaps = options[DAMAGED_AS_GAPS].value != NULL;
     if (expect_names(&a, &j) != DONE) return MISUSED;
-    int status = run_job(&a, &j, options[NODE].value);
+    status = run_job(&a, &j, options[NODE].value);
     free(j.values);
     free(j.flags);
     free(j.out_values);

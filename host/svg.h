@@ -2,9 +2,16 @@
 #ifndef SVG_H
 #define SVG_H
 
-#include "field.h"
+#include "scale.h"
+
+/* A field, its scale, and the words beside it: name is that of its file; title and unit are NULL where none is given. */
+typedef struct {
+    const field *field;
+    const scale *scale;
+    const char *name, *title, *unit;
+} drawing;
 
 /* Writes the picture; whether that worked is left in the file's state. */
-void write_svg(FILE *file, const field *f, const char *title);
+void write_svg(FILE *file, const drawing *d);
 
 #endif

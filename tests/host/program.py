@@ -30,6 +30,8 @@ class Program:
         """Exit status, standard output and standard error."""
         self.calls += 1
         pipes = {'stdout': subprocess.PIPE, 'stderr': subprocess.PIPE, 'stdin': subprocess.DEVNULL, **more}
+        if 'input' in more:
+            del pipes['stdin']
         done = subprocess.run([self.path, *words], cwd=self.folder, env=environment, timeout=60, **pipes)
         return done.returncode, (done.stdout or b'').decode(errors='surrogateescape'), (done.stderr or b'').decode(errors='replace')
 

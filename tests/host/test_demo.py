@@ -11,6 +11,7 @@ import subprocess
 import sys
 import tempfile
 import xml.etree.ElementTree
+from math import prod
 
 sys.dont_write_bytecode = True
 ROOT = os.path.dirname(os.path.dirname(os.path.dirname(os.path.abspath(__file__))))
@@ -34,9 +35,9 @@ def read_field(path):
         data = file.read()
     magic, rank = struct.unpack_from('<8sQ', data)
     extents = struct.unpack_from(f'<{rank}Q', data, 16)
-    count = (len(data) - 16 - 8 * rank) // 9
+    count = prod(extents)
     cells = struct.unpack_from(f'<{count}q{count}B', data, 16 + 8 * rank)
-    assert magic == b'LUPFIELD', path
+    assert magic == b'LUPFIELD' and len(data) == 16 + 8 * rank + 9 * count + 24, path
     return extents, [value if flag else None for value, flag in zip(cells[:count], cells[count:])]
 
 
@@ -67,10 +68,25 @@ def test_pictures(tally, text, cells):
     tally.same('hatched where it is a gap', hatched, [cell is None for cell in cells])
     first = picture(text, 'What version one would have shown')
     tally.same('version one hatches nothing', '//' in ''.join(first), False)
+    test_one_scale(tally, text)
     for name, gaps in (('field', cells.count(None)), ('zeros', 0)):
         tree = xml.etree.ElementTree.parse(os.path.join(OUT, name + '.svg'))
         kinds = [element.get('class') for element in tree.iter() if element.tag.endswith('rect')]
         tally.same(name + '.svg', (kinds.count('known'), kinds.count('gap')), (len(cells) - gaps, gaps))
+
+
+def test_one_scale(tally, text):
+    """All pictures of the demo have the scale of the bounds that the model derives, and a cell that is alike in two pictures has one colour in both."""
+    with open(os.path.join(ROOT, 'demo', 'bay.lup'), encoding='utf-8') as file:
+        record = model.verdict(lupasm.table_of(file.read()))[1][FIELD]
+    legends = re.findall(r'^(-?\d+) \.\. .* @@ (-?\d+)$', text, re.M)
+    tally.same('one scale in the three texts', legends, [(str(record.low), str(record.high))] * 3)
+    trees = [xml.etree.ElementTree.parse(os.path.join(OUT, name + '.svg')) for name in ('field', 'zeros')]
+    ends = [[element.text for element in tree.iter() if element.get('id') == end] for tree in trees for end in ('low', 'high')]
+    tally.same('one scale in the two SVG pictures', ends, [[str(record.low)], [str(record.high)]] * 2)
+    fills = [[element.get('fill') for element in tree.iter() if element.get('class') in ('known', 'gap')] for tree in trees]
+    both = [pair for k, pair in enumerate(zip(*fills)) if k % SHAPE[1] not in DEAD]
+    tally.same('cells away from the dead strip', (len(both), [pair for pair in both if pair[0] != pair[1]]), (SHAPE[0] * (SHAPE[1] - len(DEAD)), []))
 
 
 def run_demo(root):

@@ -369,7 +369,7 @@ def test_prose(tally, page, text):
     tally.holds('the most bytes', f'2 + {model.MOST_NODES}·{longest} = {size} bytes' in words)
     tally.holds('what the programs read', f'the first {model.MOST_LISTING_BYTES} bytes' in words)
     tally.holds('no bytes', f'`{model.listing(b"").decode().strip()}`' in words)
-    tally.holds('the size of a field file', '16 + 8·rank + 9·count bytes' in words)
+    tally.holds('the size of a field file', '16 + 8·rank + 9·count bytes, and 24 more with bounds' in words)
     tally.same('it needs no other text', re.findall(r'(?i)\bpapers?\b|§|\b0[12]\b', re.sub('`[^`]*`', '', text)), [])
     tally.same('line lengths outside tables', [line for line in text.split('\n') if len(line) > 165 and not line.startswith('|')], [])
     example = next(block for language, block in page.blocks if ' = greatest ' in block)
@@ -399,6 +399,17 @@ def test_field(tally, page):
     wanted = {'magic': b'LUPFIELD', 'rank': struct.pack('<Q', 2), 'extents': struct.pack('<2Q', *extents), 'values': struct.pack('<6q', *values),
               'flags': bytes(flags)}
     tally.same('the parts', (parts, at), (wanted, len(data)))
+    tail = page.table('part after the flags', 'bytes', 'what')
+    tally.same('the bounds', [(name, int(size)) for name, size, _ in tail], [('magic of the bounds', 8), ('low', 8), ('high', 8)])
+    tally.holds('their magic', 'LUPRANGE' in tail[0][2], tail[0])
+    tally.same('their size', sum(int(size) for _, size, _ in tail), 24)
+    program = os.path.join(ROOT, 'build', 'lup')
+    with tempfile.TemporaryDirectory() as folder:
+        for more, low, high in ((b'', -1, 300), (struct.pack('<8s2q', b'LUPRANGE', -5, 500), -5, 500)):
+            with open(os.path.join(folder, 'strip.field'), 'wb') as file:
+                file.write(data + more)
+            shown = subprocess.run([program, 'show', 'strip.field'], cwd=folder, capture_output=True, text=True, timeout=60, check=False)
+            tally.same(('lup show', more), re.findall(r'^(-?\d+) .* (-?\d+)$', shown.stdout, re.M), [(str(low), str(high))])
 
 
 def main():

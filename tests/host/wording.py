@@ -123,11 +123,17 @@ def lookup_texts(name, table, node, element):
 
 # -------------------------------------------------------------------- fields
 
-def field_bytes(extents, cells):
-    """A field file; None is a gap."""
+def range_bytes(low, high):
+    """What a field file ends with where it has bounds."""
+    return struct.pack('<8s2q', b'LUPRANGE', low, high)
+
+
+def field_bytes(extents, cells, bounds=None):
+    """A field file; None is a gap. bounds: low and high."""
     values = [0 if cell is None else cell for cell in cells]
     flags = [int(cell is not None) for cell in cells]
-    return struct.pack(f'<8sQ{len(extents)}Q{len(cells)}q{len(cells)}B', b'LUPFIELD', len(extents), *extents, *values, *flags)
+    data = struct.pack(f'<8sQ{len(extents)}Q{len(cells)}q{len(cells)}B', b'LUPFIELD', len(extents), *extents, *values, *flags)
+    return data + (range_bytes(*bounds) if bounds else b'')
 
 
 def read_field(data):
@@ -139,7 +145,10 @@ def read_field(data):
         return None
     extents = struct.unpack_from(f'<{rank}Q', data, 16)
     count = prod(extents)
-    if not all(1 <= extent <= LARGE for extent in extents) or count > LARGE or len(data) != 16 + 8 * rank + 9 * count:
+    if not all(1 <= extent <= LARGE for extent in extents) or count > LARGE or len(data) < 16 + 8 * rank + 9 * count:
+        return None
+    rest = data[16 + 8 * rank + 9 * count:]
+    if rest and not (len(rest) == 24 and rest[:8] == b'LUPRANGE' and bounds_of(data)[0] <= bounds_of(data)[1]):
         return None
     numbers = struct.unpack_from(f'<{count}q{count}B', data, 16 + 8 * rank)
     if any(flag > 1 for flag in numbers[count:]):
@@ -147,12 +156,31 @@ def read_field(data):
     return extents, [value if flag else None for value, flag in zip(numbers[:count], numbers[count:])]
 
 
+def bounds_of(data):
+    """The bounds at the end of a readable field file; None where it has none."""
+    return struct.unpack('<2q', data[-16:]) if data[-24:-16] == b'LUPRANGE' else None
+
+
 # ------------------------------------------------------------------- drawing
 
-def step(known, value, steps):
-    """The place of a value among equal steps from the least known number to the greatest."""
-    span = max(known) - min(known)
-    return min(steps - 1, (value - min(known)) * steps // span) if span else steps // 2
+def step(scale, value, steps):
+    """The place of a value among equal steps from the low end of the scale to the high one; a value outside has the place of the end."""
+    low, high = scale
+    if not low <= value <= high:
+        return 0 if value < low else steps - 1
+    return min(steps - 1, (value - low) * steps // (high - low)) if high > low else steps // 2
+
+
+def least_to_greatest(cells):
+    """The scale of a field that has no bounds."""
+    known = [cell for cell in cells if cell is not None]
+    return (min(known), max(known)) if known else (0, 0)
+
+
+def outside_text(cells, scale):
+    """The legend's line for numbers outside the scale; nothing where there are none."""
+    below, above = (sum(cell is not None and wrong(cell) for cell in cells) for wrong in (lambda cell: cell < scale[0], lambda cell: cell > scale[1]))
+    return f'outside the scale, drawn as its ends: {below + above} of {len(cells)} cells, {below} below and {above} above' if below + above else ''
 
 
 def titles(extents):
@@ -161,21 +189,23 @@ def titles(extents):
     return ['picture ' + ','.join(map(str, place)) + '\n' for place in model.all_coordinates(extents[:-2])]
 
 
-def drawing(name, extents, cells):
+def drawing(name, extents, cells, scale=None):
     """What lup show writes."""
-    known = [cell for cell in cells if cell is not None]
-    drawn = ['//' if cell is None else 2 * SHADES[step(known, cell, len(SHADES))] for cell in cells]
+    low, high = scale = scale or least_to_greatest(cells)
+    drawn = ['//' if cell is None else 2 * SHADES[step(scale, cell, len(SHADES))] for cell in cells]
     rows, columns = ((1, 1) + tuple(extents))[-2:]
     text = f'{name}, shape {shape_text(extents)}\n\n'
     for picture, title in enumerate(titles(extents)):
         first = picture * rows * columns
         text += title + ''.join(''.join(drawn[first + row * columns:first + (row + 1) * columns]) + '\n' for row in range(rows)) + '\n'
-    if not known:
+    outside = outside_text(cells, scale)
+    if cells.count(None) == len(cells):
         text += 'no known number\n'
-    elif min(known) == max(known):
-        text += f'{2 * SHADES[len(SHADES) // 2]} every known number: {known[0]}\n'
+    elif low == high:
+        text += f'{2 * SHADES[len(SHADES) // 2]} {"" if outside else "every known number: "}{low}\n'
     else:
-        text += f'{min(known)} {" ".join(2 * shade for shade in SHADES)} {max(known)}\n'
+        text += f'{low} {" ".join(2 * shade for shade in SHADES)} {high}\n'
+    text += outside + '\n' * bool(outside)
     return text + f'// gap: {cells.count(None)} of {len(cells)} cells\n'
 
 
