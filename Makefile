@@ -18,6 +18,9 @@ SANITIZED = build/lup-sanitized
 HOST_SOURCES = $(sort $(wildcard host/*.c))
 HOST_HEADERS = $(wildcard host/*.h) $(HEADER)
 HOST_FLAGS = $(CFLAGS) -Werror -D_POSIX_C_SOURCE=200809L -Iinclude
+# libpng draws pictures: what lup is compiled and linked with, and what brings it where it is not there.
+LIBPNG = $$(pkg-config --cflags --libs libpng)
+HAVE_LIBPNG = pkg-config --exists libpng 2>/dev/null || tools/setup libpng-dev pkg-config
 # Directories too: their times change where a file comes or goes.
 SOURCES = $(shell find crates) crates.txt TOOLCHAIN
 
@@ -39,11 +42,13 @@ $(LIST): $(SOURCES)
 	@cp target/bin/list $@
 
 $(LUP): $(HOST_SOURCES) $(HOST_HEADERS) $(ARCHIVE)
-	$(CC) $(HOST_FLAGS) -O2 -o $@ $(HOST_SOURCES) $(ARCHIVE)
+	@$(HAVE_LIBPNG)
+	$(CC) $(HOST_FLAGS) -O2 -o $@ $(HOST_SOURCES) $(ARCHIVE) $(LIBPNG)
 
 # The same sources over the same archive; the archive itself is not instrumented.
 $(SANITIZED): $(HOST_SOURCES) $(HOST_HEADERS) $(ARCHIVE)
-	$(CC) $(HOST_FLAGS) -O1 -g -fsanitize=address,undefined -fno-sanitize-recover=all -o $@ $(HOST_SOURCES) $(ARCHIVE)
+	@$(HAVE_LIBPNG)
+	$(CC) $(HOST_FLAGS) -O1 -g -fsanitize=address,undefined -fno-sanitize-recover=all -o $@ $(HOST_SOURCES) $(ARCHIVE) $(LIBPNG)
 
 build/linked: tests/boundary/linked.c $(HEADER) $(ARCHIVE)
 	$(CC) $(CFLAGS) -Werror -Iinclude -o $@ tests/boundary/linked.c $(ARCHIVE)

@@ -35,9 +35,9 @@ static uint8_t pixel_of(const void *source, size_t x, size_t y) {
     return colour_of(r->field, r->scale, ((r->first + picture) * l.rows + row) * l.columns + x / r->cell);
 }
 
-png_image image_of(const raster *r) {
+image image_of(const raster *r) {
     layout l = layout_of(&r->field->shape);
-    png_image image = {.width = l.columns * r->cell, .height = (r->pictures * (l.rows + 1) - 1) * r->cell, .pixel = pixel_of, .source = r};
-    for (size_t k = 0; k < PNG_COLOURS; k++) mix_colour(k, image.palette[k]);
-    return image;
+    image i = {.width = l.columns * r->cell, .height = (r->pictures * (l.rows + 1) - 1) * r->cell, .pixel = pixel_of, .source = r};
+    for (size_t k = 0; k < IMAGE_COLOURS; k++) mix_colour(k, i.palette[k]);
+    return i;
 }

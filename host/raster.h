@@ -2,11 +2,11 @@
 #ifndef RASTER_H
 #define RASTER_H
 
-#include "png.h"
+#include "image.h"
 #include "scale.h"
 
 /* Colours 0 to COLOURED - 1 are shades, light for the low end of the scale and dark for the high one. The two others of a palette are no shade. */
-enum { COLOURED = PNG_COLOURS - 2, GAP_COLOUR = COLOURED, PAGE_COLOUR };
+enum { COLOURED = IMAGE_COLOURS - 2, GAP_COLOUR = COLOURED, PAGE_COLOUR };
 
 /* Pictures of a field one under another, so many from the first on, with so many pixels a cell each way; a cell's height of page between two. */
 typedef struct {
@@ -25,6 +25,6 @@ void mix_colour(size_t colour, uint8_t rgb[3]);
 raster raster_of(const field *f, const scale *s);
 
 /* The image of a raster, which has to stay while the image is used. */
-png_image image_of(const raster *r);
+image image_of(const raster *r);
 
 #endif

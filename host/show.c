@@ -70,17 +70,20 @@ static int load_field(const char *name, field *f) {
     return status == DONE ? DONE : complain("%s: %s", name, why.text);
 }
 
-static void write_pixels(FILE *file, const drawing *d) {
+static int write_pixels(FILE *file, const drawing *d) {
     raster r = raster_of(d->field, d->scale);
-    png_image image = image_of(&r);
-    write_png(plain_sink(file), &image);
+    image cells = image_of(&r);
+    return write_png(file_sink(file), &cells);
 }
 
 /* The picture goes to the named file, or to standard output, by that writer. */
-static int keep_picture(const drawing *d, const char *written, void (*write)(FILE *file, const drawing *d)) {
+static int keep_picture(const drawing *d, const char *written, int (*write)(FILE *file, const drawing *d)) {
     output o;
     if (open_output(written, &o) != DONE) return MISUSED;
-    write(o.file, d);
+    if (write(o.file, d) != DONE) {
+        end_output(&o);
+        return MISUSED;
+    }
     if (keep_output(&o) != DONE) return MISUSED;
     fprintf(told_on(written, NULL), "written: %s, %zu of %zu cells are gaps\n", written, d->scale->gaps, d->field->count);
     return DONE;

@@ -11,7 +11,7 @@ typedef struct {
     const char *name, *title, *unit;
 } drawing;
 
-/* Writes the picture; whether that worked is left in the file's state. */
-void write_svg(FILE *file, const drawing *d);
+/* Writes the picture; whether it could be written is left in the file's state. DONE, or MISUSED with a message where it could not be made. */
+int write_svg(FILE *file, const drawing *d);
 
 #endif

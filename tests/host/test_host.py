@@ -593,13 +593,20 @@ def colour(scale, value):
 SVG = '{http://www.w3.org/2000/svg}'
 
 
+def sides_of(extents):
+    """Height and width of a cell: squares of 12 pixels, of fewer where a picture would be over 1200 along one side; one row or column alone keeps 12."""
+    rows, columns = ((1, 1) + tuple(extents))[-2:]
+    side = min(12, max(1, 1200 // max(rows, columns)))
+    return side if rows > 1 else 12, side if columns > 1 else 12
+
+
 def places(extents, shown):
     """Row and column of every rectangle within its picture, by its own x and y."""
-    rows, columns = ((1, 1) + tuple(extents))[-2:]
+    (rows, columns), (high, wide) = ((1, 1) + tuple(extents))[-2:], sides_of(extents)
     found = []
     for first in range(0, len(shown), rows * columns):
         own = [(int(rect.get('y')), int(rect.get('x'))) for rect in shown[first:first + rows * columns]]
-        found += [((y - own[0][0]) / 12, (x - own[0][1]) / 12) for y, x in own]
+        found += [((y - own[0][0]) / high, (x - own[0][1]) / wide) for y, x in own]
     return found
 
 
@@ -657,9 +664,9 @@ def tick_steps():
 
 def test_axes(tally, root, extents, rects):
     """Each number stands beside the middle of its row or under that of its column; numbers begin with 0, are equally far apart, and do not touch."""
-    rows, columns = ((1, 1) + tuple(extents))[-2:]
+    (rows, columns), (high, wide) = ((1, 1) + tuple(extents))[-2:], sides_of(extents)
     first = rects[::rows * columns] if len(rects) == prod(extents) else rects[:1]
-    for axis, extent, rank in (('rows', rows, 2), ('columns', columns, 1)):
+    for axis, extent, rank, side in (('rows', rows, 2, high), ('columns', columns, 1, wide)):
         groups = root.findall(f'{SVG}g[@class="{axis}"]')
         tally.same(('an axis a picture', axis), len(groups), len(first) if len(extents) >= rank else 0)
         for group, (x, y, _, _) in zip(groups, map(box, first)):
@@ -668,15 +675,15 @@ def test_axes(tally, root, extents, rects):
             apart = numbers[1] if len(numbers) > 1 else extent
             tally.same(('numbers', axis), numbers, list(range(0, extent, apart)))
             tally.holds(('their step', axis), len(numbers) == 1 or apart in tick_steps(), numbers)
-            tally.holds(('so many', axis, extent), len(numbers) <= 40 and (extent > 10 or len(numbers) == extent) and (extent < 2 or len(numbers) > 1), numbers)
-            middles = [(y if axis == 'rows' else x) + 12 * number + 6 for number in numbers]
-            wanted = [f'M{x} {middle}h-4' if axis == 'rows' else f'M{middle} {y + 12 * rows}v4' for middle in middles]
+            tally.holds(('so many', axis, extent), len(numbers) <= 40 and (extent > 10 or side < 12 or len(numbers) == extent) and (extent * side < 100 or len(numbers) > 1), numbers)
+            middles = [(y if axis == 'rows' else x) + side * number + side // 2 for number in numbers]
+            wanted = [f'M{x} {middle}h-4' if axis == 'rows' else f'M{middle} {y + high * rows}v4' for middle in middles]
             tally.same(('ticks', axis), [path.get('d') for path in paths], wanted)
             at = [int(item.get('y')) - 4 if axis == 'rows' else int(item.get('x')) for item in texts]
             tally.same(('beside the ticks', axis), at, middles)
-            tally.same(('clear of the cells', axis), all(int(item.get('x')) < x if axis == 'rows' else int(item.get('y')) - 9 >= y + 12 * rows for item in texts), True)
-            wide = 8 * len(str(numbers[-1]))
-            tally.same(('they do not touch', axis), len(numbers) < 2 or 12 * apart >= (12 if axis == 'rows' else wide), True)
+            tally.same(('clear of the cells', axis), all(int(item.get('x')) < x if axis == 'rows' else int(item.get('y')) - 9 >= y + high * rows for item in texts), True)
+            across = 8 * len(str(numbers[-1]))
+            tally.same(('they do not touch', axis), len(numbers) < 2 or side * apart >= (12 if axis == 'rows' else across), True)
             tally.same(('on the page', axis), axis == 'columns' or all(int(item.get('x')) >= 7 * len(item.text) for item in texts), True)
 
 
@@ -700,8 +707,9 @@ def chunks_of(data):
 
 def decoded(data):
     """The rows of a PNG file's pixels as colours. zlib checks the sum of Adler."""
-    (first, header), (second, palette), (third, packed), last = chunks_of(data)
-    assert (first, second, third, last) == (b'IHDR', b'PLTE', b'IDAT', (b'IEND', b'')), (first, second, third, last)
+    (first, header), (second, palette), *several, last = chunks_of(data)
+    kinds, packed = {kind for kind, _ in several}, b''.join(body for _, body in several)
+    assert (first, second, kinds, last) == (b'IHDR', b'PLTE', {b'IDAT'}, (b'IEND', b'')), (first, second, kinds, last)
     width, height, *rest = struct.unpack('>2I5B', header)
     inflater = zlib.decompressobj()
     pixels = inflater.decompress(packed)
@@ -734,7 +742,8 @@ def test_png(tally, lup, rng):
     """Every pixel of the PNG picture of fields of all ranks, on several scales; what is told of the scale."""
     several = [(extents, cells, *rng.choice(list(scales_to_show(rng, cells))[:6])) for extents, cells in fields_to_show(rng)]
     large = [rng.choice((None, rng.randint(-9, 9))) for _ in range(512 * 700)]
-    several += [((512, 700), large, (), None, (-9, 9)), ((1, 70000), large[:70000], (), (-20, 20), (-20, 20)), ((65, 64), large[:4160], (), None, (-9, 9))]
+    several += [((512, 700), large, (), None, (-9, 9)), ((1, 70000), large[:70000], (), (-20, 20), (-20, 20)), ((65, 64), large[:4160], (), None, (-9, 9)),
+                ((MOST,), [k % 5 for k in range(MOST)], (), None, (0, 4)), ((MOST, 1), [k % 5 for k in range(MOST)], (), None, (0, 4))]
     for extents, cells, words, bounds, scale in several:
         size = max(size for size in range(1, 17) if size == 1 or len(cells) * size * size <= 1048576)
         outside = outside_text(cells, scale)
@@ -770,20 +779,20 @@ def large_fields(rng):
 
 def cells_drawn(root, extents):
     """The colour at each cell's place, by the rectangles and images of the page: pictures of rows; and the class of each. None where nothing is drawn."""
-    rows, columns = ((1, 1) + tuple(extents))[-2:]
+    (rows, columns), (high, wide) = ((1, 1) + tuple(extents))[-2:], sides_of(extents)
     numbered = root.findall(f'{SVG}g[@class="columns"]/{SVG}path')
     ends = sorted({int(path.get('d').split()[1].split('v')[0]) for path in numbered})
-    tops, found = [end - 12 * rows for end in ends], [[[None] * columns for _ in range(rows)] for _ in ends]
-    left = int(numbered[0].get('d')[1:].split()[0]) - 6
+    tops, found = [end - high * rows for end in ends], [[[None] * columns for _ in range(rows)] for _ in ends]
+    left = int(numbered[0].get('d')[1:].split()[0]) - wide // 2
     for item in root.findall(f'{SVG}rect') + root.findall(f'{SVG}image'):
         if item.get('class') not in ('known', 'gap', 'cells'):
             continue
         x, y, width, height = box(item)
         picture = max(k for k, top in enumerate(tops) if top <= y)
-        row, column = divmod(y - tops[picture], 12)[0], (x - left) // 12
+        row, column = (y - tops[picture]) // high, (x - left) // wide
         lines = decoded(base64.b64decode(item.get('href').split(',')[1], validate=True)) if item.get('class') == 'cells' else None
-        lines = lines or [[{'known': item.get('fill'), 'gap': RED}[item.get('class')]] * (width // 12)]
-        assert (12 * len(lines), 12 * len(lines[0])) == (height, width) and (y - tops[picture]) % 12 == (x - left) % 12 == 0, (x, y, width, height)
+        lines = lines or [[{'known': item.get('fill'), 'gap': RED}[item.get('class')]] * (width // wide)]
+        assert (high * len(lines), wide * len(lines[0])) == (height, width) and (y - tops[picture]) % high == (x - left) % wide == 0, (x, y, width, height)
         for k, line in enumerate(lines):
             assert found[picture][row + k][column:column + len(line)] == [None] * len(line), 'two at one place'
             found[picture][row + k][column:column + len(line)] = line

@@ -1,10 +1,19 @@
 // The C library: each export calls the proved crate behind it. `include/lupetzarin.h` declares them.
+ghost use Prim.Native.Nat.{_+_, _*_};
 ghost use mathlib.Core.Path.{_≡_};
 ghost use lib.ListN.{length};
 ghost use Rattle.codec.specs.Plans.{unpack, unpackAnswer, tableAfter};
 ghost use Rattle.lookup.specs.Following.{lookup, replyOf};
 ghost use Rattle.runner.specs.Run.{run, runAnswer, valuesAfter, flagsAfter};
 ghost use Rattle.verifier.specs.Check.{check, checkAnswer, derivedAfter, unpackCheck, codeOf};
+
+// The version of this library, 4.0.0: 1000000 times the major number, 1000 times the minor one, and the patch. The macros of the header say the same.
+#[no_mangle]
+pub extern "C" fn lup_version() -> u64
+    ensures { λ r. ⌜ r ≡ 1000000 * 4 + 1000 * 0 + 0 ⌝ }
+{
+    4000000
+}
 
 // A packed plan into a table, which stays as it was where the plan is refused.
 #[no_mangle]
