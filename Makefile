@@ -111,7 +111,8 @@ expect_directories:
 	    case "$$name" in [!/]* | '' | *[!A-Za-z0-9_./+:~-]*) \
 	        echo "make: '$$name' is no absolute name of letters, digits and _ . / + : ~ - alone: nothing was done" >&2; exit 1;; esac; done
 
-# list is a name for any program; installed it is lup-list. ldconfig is not run: that is the administrator's.
+# list is a name for any program; installed it is lup-list. ldconfig is not run: that is the administrator's. mkdir -p, since install -d changes the
+# mode of a directory that is there.
 install: expect_directories $(ARCHIVE) $(SHARED) $(LIST) $(LUP)
 	umask 022 && mkdir -p $(call under,$(DIRECTORIES))
 	$(INSTALL) -m 755 $(LUP) $(call under,$(BINDIR)/lup)

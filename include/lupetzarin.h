@@ -106,7 +106,7 @@ enum lup_refusal {
     LUP_REFUSED_UNUSED_WORD = 3,       /* unused word not zero (node) */
     LUP_REFUSED_SOURCE = 4,            /* source negative or not earlier (node) */
     LUP_REFUSED_TYPE = 5,              /* type not 0..3 (node) */
-    LUP_REFUSED_OPERAND_TYPES = 6,     /* operands differ, bool misplaced, or WHERE condition not bool (node) */
+    LUP_REFUSED_OPERAND_TYPES = 6,     /* type rule broken (operands differ, bool misplaced, or WHERE condition not bool) (node) */
     LUP_REFUSED_ROW_OR_NUMBER = 7,     /* row or number wrong (node) */
     LUP_REFUSED_SHAPE = 8,             /* shapes disagree, or over 1048576 elements (node) */
     LUP_REFUSED_DEVICES = 9,           /* two devices (node) */
