@@ -184,7 +184,7 @@ def test_shared(tally, place):
     node = f'LUPETZARIN_{".".join(version().split(".")[:2])}'
     exported = sorted(name for kind, name in symbols if kind not in 'AUw')
     tally.same('exports', exported, [f'{name}@@{node}' for name in declared()])
-    tally.same('versions', [name.rstrip('@') for kind, name in symbols if kind == 'A'], [node + '@@' + node] if '@@' in symbols[0][1] and False else [node])
+    tally.same('versions', [name.partition('@')[0] for kind, name in symbols if kind == 'A'], [node])
     tally.same('wanted of the C library', sorted(name.partition('@')[0] for kind, name in symbols if kind == 'U'), ['memcpy', 'memset'])
     tally.same('the archive\'s calls', sorted(line.split()[-1] for line in told('nm', '-g', '--defined-only', f'{place}/lib/liblupetzarin.a').splitlines()
                                             if ' T lup_' in line), declared())
@@ -273,7 +273,8 @@ def test_programs(tally, folder, place):
 
 def page_text(path):
     """A page as it is read, without marks."""
-    return told('man', '-l', '-Tascii', '-P', 'cat', '--no-hyphenation', '--no-justification', path, more={'MANWIDTH': '200', 'GROFF_NO_SGR': '1', 'MAN_KEEP_FORMATTING': ''})
+    text = told('man', '-l', '-Tascii', '-P', 'cat', '--no-hyphenation', '--no-justification', path, more={'MANWIDTH': '200'})
+    return re.sub('.\b|\x1b\\[[0-9;]*m', '', text)
 
 
 def options_in(text):
@@ -312,11 +313,15 @@ def test_pages(tally, place):
     parts = sections(heads['COMMANDS'], r'^   lup (\w+) .*$')
     lup = f'{place}/bin/lup'
     tally.same('commands', tuple(parts), COMMANDS)
+    every = {'-h', '--help', '--version'}
     for name, part in parts.items():
-        text = told(lup, name, '--help').split('\nOptions may stand')[0]
-        tally.same(name, options_in(part) | {'-o'} if name == 'run' else options_in(part), options_in(text) - {'--dot-'})
+        options = options_in(told(lup, name, '--help').split('\nOptions may stand')[0])
+        tally.same((name, 'options'), options_in(part), options)
+        every |= options
     general = told(lup, '--help')
-    tally.same('general options', options_in(heads['SYNOPSIS']) >= {'--help', '-h', '--version'}, True)
+    tally.same('options of the usage', options_in(general), every)
+    tally.same('options of the synopsis', every - options_in(heads['SYNOPSIS'] + heads['COMMANDS']), set())
+    tally.same('other options', options_in(''.join(heads.values())) - every, set())
     tally.same('statuses', statuses(heads['EXIT STATUS']), re.findall(r'(?:Exit status: |; )(\d) ', general[general.index('Exit status: '):].replace('\n', ' ')))
     heads = sections(page_text(f'{place}/share/man/man1/lupasm.1'), r'^([A-Z][A-Z ]+)$')
     text = told(f'{place}/bin/lupasm', '--help')
@@ -336,7 +341,7 @@ def test_page_of_calls(tally, folder, place):
     said = re.findall(r'\w+ lup_\w+\([^;]*;', heads['SYNOPSIS'])
     header = re.findall(r'^\w+ lup_\w+\([^;]*;', read('include', 'lupetzarin.h'), re.M)
     tally.same('declarations', [' '.join(call.split()) for call in said], [' '.join(call.split()) for call in header])
-    tally.same('every call in words', re.findall(r'^ +(lup_\w+)\(\)$', heads['DESCRIPTION'], re.M), [re.search(r'lup_\w+', call)[0] for call in header])
+    tally.same('every call in words', re.findall(r'^ +(lup_\w+)\(\)$', heads['DESCRIPTION'], re.M), [re.search(r'(lup_\w+)\(', call)[1] for call in header])
     code, words = heads['EXAMPLES'].split('This writes ')
     source, program = put(code, folder, 'example.c'), os.path.join(folder, 'example')
     flags = pkg_config(place, '--cflags', '--libs')
@@ -402,7 +407,7 @@ def test_wheel(tally, folder):
     tally.same('its tag', re.findall(r'^(?:Root-Is-Purelib|Tag): (.*)$', tags, re.M), ['false', 'py3-none-linux_x86_64'])
     status, text, errors = ran('/usr/bin/python3', '-m', 'pip', 'wheel', '--no-build-isolation', '--no-index', '-w', f'{folder}/none', '.', cwd=pip_tree(folder, 'empty'))
     tally.holds('no object', status == 1 and re.search(r'^ *error: build/liblupetzarin\.so is not there: run make first$', text + errors, re.M), text + errors)
-    tally.same('no wheel', os.path.exists(f'{folder}/none') and os.listdir(f'{folder}/none'), False)
+    tally.same('no wheel', os.path.isdir(f'{folder}/none') and os.listdir(f'{folder}/none'), [])
 
 
 STUB = 'unsigned long lup_version(void) { return %d; }\nvoid lup_unpack(void) {}\nvoid lup_check(void) {}\nvoid lup_unpack_check(void) {}\nvoid lup_run(void) {}\nvoid lup_lookup(void) {}\n'
