@@ -132,7 +132,7 @@ def test_languages(tally):
         with tempfile.TemporaryDirectory() as folder:
             source = os.path.join(folder, 'twice.' + ending)
             with open(source, 'w', encoding='utf-8') as file:
-                file.write('#include "lupetzarin.h"\n#include "lupetzarin.h"\nuint64_t version_of(void);\nuint64_t version_of(void) { return lup_version(); }\n')
+                file.write('#include "lupetzarin.h"\n#include "lupetzarin.h"\n#if LUP_VERSION < 1000000\n#error\n#endif\nuint64_t version_of(void);\nuint64_t version_of(void) { return lup_version(); }\n')
             done = subprocess.run([compiler, '-std=' + standard, *WARNINGS, '-I', os.path.join(ROOT, 'include'), '-c', '-o', os.path.join(folder, 'twice.o'), source],
                                   capture_output=True, text=True, check=False)
         tally.same(standard, (done.returncode, done.stdout, done.stderr), (0, '', ''))

@@ -29,6 +29,8 @@ CLEAN.update(PYTHONDONTWRITEBYTECODE='1', LC_ALL='C.UTF-8', PIP_CONFIG_FILE=os.d
 # Two numbers, padded to four at 1; a run of 7 and a gap has three gaps.
 with open(os.path.join(ROOT, 'demo', 'small.lup'), encoding='utf-8') as small:
     SMALL = small.read()
+# The calls that programs of version 4.0 are linked with.
+FIRST_CALLS = 'lup_check', 'lup_lookup', 'lup_run', 'lup_unpack', 'lup_unpack_check', 'lup_version'
 LISTING = 'node op dtype device low high shape\n0 1 2 1 -9 9 2\n1 6 2 1 -9 9 4\naccepted 2\n'
 
 
@@ -175,16 +177,23 @@ def declared():
     return sorted(set(re.findall(r'^\w+ (lup_\w+)\(', read('include', 'lupetzarin.h'), re.M)))
 
 
+def versioned():
+    """The calls of each version, by the version script."""
+    nodes = re.findall(r'^(LUPETZARIN_\d+\.\d+) \{(.*?)^\}', read('packaging', 'lupetzarin.map'), re.M | re.S)
+    return {node: re.findall(r'\b(lup_\w+);', body) for node, body in nodes}
+
+
 def test_shared(tally, place):
     """SONAME, what it needs, and what it exports and wants: the calls of the header, each with its version."""
     shared = f'{place}/lib/liblupetzarin.so'
     entries = re.findall(r'\((SONAME|NEEDED|RPATH|RUNPATH|TEXTREL)\).*\[(.*)\]', told('readelf', '-dW', shared))
     tally.same('what the loader reads', sorted(entries), [('NEEDED', 'libc.so.6'), ('SONAME', f'liblupetzarin.so.{major()}')])
     symbols = [line.split()[-2:] for line in told('nm', '-D', '--with-symbol-versions', shared).splitlines()]
-    node = f'LUPETZARIN_{".".join(version().split(".")[:2])}'
-    exported = sorted(name for kind, name in symbols if kind not in 'AUw')
-    tally.same('exports', exported, [f'{name}@@{node}' for name in declared()])
-    tally.same('versions', [name.partition('@')[0] for kind, name in symbols if kind == 'A'], [node])
+    exported = [name for kind, name in symbols if kind not in 'AUw']
+    tally.same('exports', sorted(exported), sorted(f'{call}@@{node}' for node, calls in versioned().items() for call in calls))
+    tally.same('calls', sorted(name.partition('@')[0] for name in exported), declared())
+    tally.same('calls of version 4.0', [name for name in FIRST_CALLS if f'{name}@@LUPETZARIN_4.0' not in exported], [])
+    tally.same('versions', [name.partition('@')[0] for kind, name in symbols if kind == 'A'], list(versioned()))
     tally.same('wanted of the C library', sorted(name.partition('@')[0] for kind, name in symbols if kind == 'U'), ['memcpy', 'memset'])
     tally.same('the archive\'s calls', sorted(line.split()[-1] for line in told('nm', '-g', '--defined-only', f'{place}/lib/liblupetzarin.a').splitlines()
                                             if ' T lup_' in line), declared())
@@ -461,10 +470,9 @@ def test_versions(tally, place):
     tally.same('CHANGELOG begins with', heads[0], ('Unreleased', ''))
     tally.holds('its newest release', heads[1][0] == version() and re.fullmatch(r'\d{4}-\d\d-\d\d', heads[1][1]), heads)
     tally.same('the assembler\'s library', lupasm.LIBRARIES[-1], f'lib/liblupetzarin.so.{major()}')
-    nodes = re.findall(r'^LUPETZARIN_([\d.]+) \{', read('packaging', 'lupetzarin.map'), re.M)
-    tally.same('nodes of the version script', nodes and nodes[-1].split('.')[0], major())
-    listed = re.findall(r'\b(lup_\w+);', read('packaging', 'lupetzarin.map'))
-    tally.same('calls of the version script', sorted(listed), declared())
+    nodes = [node.removeprefix('LUPETZARIN_').split('.') for node in versioned()]
+    own, minor = version().split('.')[:2]
+    tally.same('nodes of the version script', [node for node in nodes if node[0] != own or int(node[1]) > int(minor)], [])
 
 
 def main():
