@@ -286,7 +286,7 @@ def library_path():
     root = os.path.dirname(os.path.dirname(os.path.realpath(__file__)))
     paths = [os.path.join(root, path) for path in LIBRARIES]
     there = next(filter(os.path.exists, paths), os.path.basename(LIBRARIES[-1]))
-    return os.environ.get('LUPETZARIN_LIBRARY', there)
+    return os.environ.get('LUPETZARIN_LIBRARY') or there
 
 
 def unpacked(data):

@@ -186,7 +186,7 @@ def _path() -> str:
     places = folder, os.path.join(os.path.dirname(folder), 'build')
     paths = [os.path.join(place, 'liblupetzarin.so') for place in places]
     there = next(filter(os.path.exists, paths), f'liblupetzarin.so.{_MAJOR}')
-    return os.environ.get('LUPETZARIN_LIBRARY', there)
+    return os.environ.get('LUPETZARIN_LIBRARY') or there
 
 
 def _opened(path: str) -> ctypes.CDLL:

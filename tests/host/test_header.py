@@ -38,11 +38,12 @@ def read(*parts):
 
 def compiled(names):
     """The number of each name, and LUP_VERSION_TEXT, as a C program prints them."""
-    lines = [f'    printf("%s %lld\\n", "{name}", (long long){name});' for name in names]
+    lines = ['#include "lupetzarin.h"', '#include <stdio.h>', 'int main(void) {',
+             *(f'    printf("%s %lld\\n", "{name}", (long long){name});' for name in names), '    puts(LUP_VERSION_TEXT);', '    return 0;', '}\n']
     with tempfile.TemporaryDirectory() as folder:
         source, program = os.path.join(folder, 'names.c'), os.path.join(folder, 'names')
         with open(source, 'w', encoding='utf-8') as file:
-            file.write('\n'.join(['#include "lupetzarin.h"', '#include <stdio.h>', 'int main(void) {', *lines, '    puts(LUP_VERSION_TEXT);', '    return 0;', '}\n']))
+            file.write('\n'.join(lines))
         subprocess.run(['gcc', '-std=c99', *WARNINGS, '-I', os.path.join(ROOT, 'include'), '-o', program, source], check=True)
         *pairs, text = subprocess.run([program], capture_output=True, text=True, check=True).stdout.splitlines()
     return {name: int(number) for name, number in map(str.split, pairs)}, text
@@ -126,15 +127,25 @@ def test_comments(tally, page, text):
         tally.holds((name, ends), re.search(rf'LUP_TYPE_{name.upper()} = \d,? +/\* {re.escape(ends)} \*/', text))
 
 
+TWICE = '''#include "lupetzarin.h"
+#include "lupetzarin.h"
+#if LUP_VERSION < 1000000
+#error
+#endif
+uint64_t version_of(void);
+uint64_t version_of(void) { return lup_version(); }
+'''
+
+
 def test_languages(tally):
-    """Included alone and twice."""
+    """Included alone and twice; the version can be asked by the preprocessor."""
     for compiler, standard, ending in (('gcc', 'c99', 'c'), ('gcc', 'c11', 'c'), ('gcc', 'c17', 'c'), ('g++', 'c++11', 'cc'), ('g++', 'c++17', 'cc')):
         with tempfile.TemporaryDirectory() as folder:
             source = os.path.join(folder, 'twice.' + ending)
             with open(source, 'w', encoding='utf-8') as file:
-                file.write('#include "lupetzarin.h"\n#include "lupetzarin.h"\n#if LUP_VERSION < 1000000\n#error\n#endif\nuint64_t version_of(void);\nuint64_t version_of(void) { return lup_version(); }\n')
-            done = subprocess.run([compiler, '-std=' + standard, *WARNINGS, '-I', os.path.join(ROOT, 'include'), '-c', '-o', os.path.join(folder, 'twice.o'), source],
-                                  capture_output=True, text=True, check=False)
+                file.write(TWICE)
+            command = [compiler, '-std=' + standard, *WARNINGS, '-I', os.path.join(ROOT, 'include'), '-c', '-o', os.path.join(folder, 'twice.o'), source]
+            done = subprocess.run(command, capture_output=True, text=True, check=False)
         tally.same(standard, (done.returncode, done.stdout, done.stderr), (0, '', ''))
 
 

@@ -22,6 +22,7 @@ sys.path[:0] = [os.path.join(ROOT, part) for part in ('host', 'tests/tools')]
 import lupasm  # noqa: E402
 from counting import Cases  # noqa: E402
 
+STRICT = '-std=c99', '-Wall', '-Wextra', '-Wpedantic', '-Werror'
 COMMANDS = 'list', 'check', 'run', 'lookup', 'show'
 CLEAN = {key: value for key, value in os.environ.items()
          if not key.startswith(('PYTHON', 'LUPETZARIN', 'PKG_CONFIG', 'LD_', 'PIP_', 'MAKE', 'MFLAGS', 'MAN', 'DESTDIR', 'PREFIX', 'VIRTUAL_ENV'))}
@@ -165,7 +166,8 @@ def test_nothing_built(tally, folder):
     shutil.copytree(ROOT, copy, symlinks=True, ignore=lambda place, names: {'build', 'target', '.git'} & set(names) if place == ROOT else set())
     status, text, errors = make('-n', 'install', f'DESTDIR={folder}/none', root=copy)
     tally.same('make -n install', (status, errors), (0, ''))
-    for words in ('rt staticlib lupetzarin', 'rt check list', 'gcc -shared -o build/liblupetzarin.so ', ' -o build/lup ', f"install -m 755 build/lup '{folder}/none/usr/local/bin/lup'"):
+    for words in ('rt staticlib lupetzarin', 'rt check list', 'gcc -shared -o build/liblupetzarin.so ', ' -o build/lup ',
+                  f"install -m 755 build/lup '{folder}/none/usr/local/bin/lup'"):
         tally.holds(words, words in text, text)
     tally.same('nothing was done', (os.path.exists(f'{copy}/build'), os.path.exists(f'{folder}/none')), (False, False))
 
@@ -238,14 +240,15 @@ def test_programs_in_c(tally, folder, place):
         with tally.case(name):
             flags = pkg_config(where, '--cflags', '--libs', *words, **more)
             tally.same('flags', flags, [f'-I{where}/include', f'-L{where}/lib', '-llupetzarin'])
-            program = os.path.join(folder, name)
-            tally.same('compiled', ran('gcc', '-std=c11', '-Wall', '-Wextra', '-Wpedantic', '-Werror', *(['-static'] if static else []), '-o', program, source, *flags), (0, '', ''))
+            program, how = os.path.join(folder, name), ['-static'] if static else []
+            tally.same('compiled', ran('gcc', *STRICT, *how, '-o', program, source, *flags), (0, '', ''))
             tally.same('needs the object', f'[liblupetzarin.so.{major()}]' in told('readelf', '-dW', program), not static)
             tally.same('says', ran(program, more={} if static else {'LD_LIBRARY_PATH': f'{where}/lib'}), (0, said, ''))
             tally.same('without the object', ran(program)[0] == 0, static)
     other = told('pkg-config', '--libs', 'lupetzarin', more={'PKG_CONFIG_LIBDIR': f'{place}-32/lib/x86_64-linux-gnu/pkgconfig'}).split()
     tally.same('another LIBDIR', other, [f'-L{place}-32/lib/x86_64-linux-gnu', '-llupetzarin'])
-    tally.same('variables', [pkg_config(place, '--variable=' + name) for name in ('prefix', 'libdir', 'includedir')], [[place], [f'{place}/lib'], [f'{place}/include']])
+    variables = {name: pkg_config(place, '--variable=' + name) for name in ('prefix', 'libdir', 'includedir')}
+    tally.same('variables', variables, {'prefix': [place], 'libdir': [f'{place}/lib'], 'includedir': [f'{place}/include']})
 
 
 # --------------------------------------------------- the installed programs
@@ -273,6 +276,7 @@ def test_programs(tally, folder, place):
     installed(f'DESTDIR={elsewhere}', 'LIBDIR=/libraries')
     asm = f'{elsewhere}/usr/local/bin/lupasm'
     tally.same('by the loader', ran(asm, '--back', plan, more={'LD_LIBRARY_PATH': f'{elsewhere}/libraries'}, **how), (0, back, ''))
+    tally.same('an empty name is none', ran(asm, '--back', plan, more={'LUPETZARIN_LIBRARY': '', 'LD_LIBRARY_PATH': f'{elsewhere}/libraries'}, **how), (0, back, ''))
     tally.same('by its name', ran(asm, '--back', plan, more={'LUPETZARIN_LIBRARY': f'{elsewhere}/libraries/liblupetzarin.so'}, **how), (0, back, ''))
     status, text, errors = ran(asm, '--back', plan, **how)
     tally.same('nowhere', (status, text, errors.startswith(f'lupasm: the library cannot be loaded: liblupetzarin.so.{major()}: ')), (2, '', True))
@@ -353,8 +357,7 @@ def test_page_of_calls(tally, folder, place):
     tally.same('every call in words', re.findall(r'^ +(lup_\w+)\(\)$', heads['DESCRIPTION'], re.M), [re.search(r'(lup_\w+)\(', call)[1] for call in header])
     code, words = heads['EXAMPLES'].split('This writes ')
     source, program = put(code, folder, 'example.c'), os.path.join(folder, 'example')
-    flags = pkg_config(place, '--cflags', '--libs')
-    tally.same('the example', ran('gcc', '-std=c99', '-Wall', '-Wextra', '-Werror', '-o', program, source, *flags), (0, '', ''))
+    tally.same('the example', ran('gcc', *STRICT, '-o', program, source, *pkg_config(place, '--cflags', '--libs')), (0, '', ''))
     tally.same('what it writes', ran(program, more={'LD_LIBRARY_PATH': f'{place}/lib'}), (0, words.strip().rstrip('.') + '\n', ''))
 
 
@@ -398,10 +401,13 @@ def test_pip(tally, folder):
     tally.same('nothing is left', [name for name in os.listdir(site) if 'lupetzarin' in name], [])
 
 
+PIP_WHEEL = '/usr/bin/python3', '-m', 'pip', 'wheel', '--no-build-isolation', '--no-index', '-w'
+
+
 def test_wheel(tally, folder):
     """The wheel is for this platform and any Python 3; without the object none is made; installed to be edited, the module finds that of the checkout."""
     tree = pip_tree(folder, 'wheel', 'build/liblupetzarin.so')
-    told('/usr/bin/python3', '-m', 'pip', 'wheel', '--no-build-isolation', '--no-index', '-w', folder, '.', cwd=tree)
+    told(*PIP_WHEEL, folder, '.', cwd=tree)
     wheels = [name for name in os.listdir(folder) if name.endswith('.whl')]
     tally.same('its name', wheels, [f'lupetzarin-{version()}-py3-none-linux_x86_64.whl'])
     with zipfile.ZipFile(os.path.join(folder, wheels[0])) as wheel:
@@ -414,12 +420,12 @@ def test_wheel(tally, folder):
     tally.same('its version', re.findall(r'^Version: (.*)$', metadata, re.M), [version()])
     tally.same('numpy is an extra', re.findall(r'^Requires-Dist: (.*)$', metadata, re.M), ["numpy ; extra == 'numpy'"])
     tally.same('its tag', re.findall(r'^(?:Root-Is-Purelib|Tag): (.*)$', tags, re.M), ['false', 'py3-none-linux_x86_64'])
-    status, text, errors = ran('/usr/bin/python3', '-m', 'pip', 'wheel', '--no-build-isolation', '--no-index', '-w', f'{folder}/none', '.', cwd=pip_tree(folder, 'empty'))
+    status, text, errors = ran(*PIP_WHEEL, f'{folder}/none', '.', cwd=pip_tree(folder, 'empty'))
     tally.holds('no object', status == 1 and re.search(r'^ *error: build/liblupetzarin\.so is not there: run make first$', text + errors, re.M), text + errors)
     tally.same('no wheel', os.path.isdir(f'{folder}/none') and os.listdir(f'{folder}/none'), [])
 
 
-STUB = 'unsigned long lup_version(void) { return %d; }\nvoid lup_unpack(void) {}\nvoid lup_check(void) {}\nvoid lup_unpack_check(void) {}\nvoid lup_run(void) {}\nvoid lup_lookup(void) {}\n'
+STUB = 'unsigned long lup_version(void) { return %d; }\n' + ''.join(f'void {name}(void) {{}}\n' for name in FIRST_CALLS if name != 'lup_version')
 
 
 def stub(folder, number, *parts):
@@ -445,6 +451,7 @@ def test_search(tally, folder):
     beside, in_build = stub(tree, first + 2, 'python', 'liblupetzarin.so'), stub(tree, first + 999003, 'build', 'liblupetzarin.so')
     tally.same('named', imported(tree, **named, **loader), first + 1)
     tally.same('beside the module', imported(tree, **loader), first + 2)
+    tally.same('an empty name is none', imported(tree, LUPETZARIN_LIBRARY='', **loader), first + 2)
     os.remove(beside)
     tally.same('in the checkout', imported(tree, **loader), first + 999003)
     os.remove(in_build)
