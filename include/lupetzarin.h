@@ -17,7 +17,7 @@
 extern "C" {
 #endif
 
-/* The version of this header; CHANGELOG.md says what a version promises. LUP_VERSION is one number, to compare; LUP_VERSION_TEXT is "4.0.0". */
+/* The version of this header; CHANGELOG.md says what a version promises. LUP_VERSION is one number, to compare; LUP_VERSION_TEXT has points between. */
 #define LUP_VERSION_MAJOR 4
 #define LUP_VERSION_MINOR 0
 #define LUP_VERSION_PATCH 0
