@@ -34,9 +34,10 @@ $(ARCHIVE): $(SOURCES)
 	@rt staticlib lupetzarin >build/library.log 2>&1 || { tail -n 40 build/library.log; exit 1; }
 	@cp target/staticlib/liblupetzarin.a $@
 
-# The calls of the header alone are exported, with their versions; a name that nothing defines is an error.
+# The calls of the header alone are exported, with their versions; a name that is wanted or listed and that nothing defines is an error.
 $(SHARED): $(ARCHIVE) packaging/lupetzarin.map $(HEADER)
-	$(CC) -shared -o $@ -Wl,-soname,$(SONAME) -Wl,--version-script=packaging/lupetzarin.map -Wl,-z,defs -Wl,--whole-archive $(ARCHIVE) -Wl,--no-whole-archive
+	$(CC) -shared -o $@ -Wl,-soname,$(SONAME) -Wl,--version-script=packaging/lupetzarin.map -Wl,--no-undefined-version -Wl,-z,defs \
+	    -Wl,--whole-archive $(ARCHIVE) -Wl,--no-whole-archive
 
 $(LIST): $(SOURCES)
 	@mkdir -p build
