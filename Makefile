@@ -4,7 +4,8 @@
 # make fuzz   every export on random and mutated inputs, FUZZ_SECONDS long (60); FUZZ_SEED chooses them
 # make demo   the main job on example data
 # make bench  speed, as ratios measured in one run
-.PHONY: all test linked fuzz demo bench clean
+# make install, make uninstall   programs, header, libraries, pkg-config file and man pages under PREFIX (/usr/local); DESTDIR: a folder to put in front of it
+.PHONY: all test linked fuzz demo bench install uninstall expect_directories clean
 .DELETE_ON_ERROR:
 
 CC = gcc
@@ -21,6 +22,9 @@ HOST_FLAGS = $(CFLAGS) -Werror -D_POSIX_C_SOURCE=200809L -Iinclude
 # libpng draws pictures: what lup is compiled and linked with, and what brings it where it is not there.
 LIBPNG = $$(pkg-config --cflags --libs libpng)
 HAVE_LIBPNG = pkg-config --exists libpng 2>/dev/null || tools/setup libpng-dev pkg-config
+# The version is said in the header alone.
+VERSION := $(shell sed -n 's/^\#define LUP_VERSION_[MP][A-Z]* //p' $(HEADER) | paste -sd.)
+SONAME = liblupetzarin.so.$(firstword $(subst ., ,$(VERSION)))
 # Directories too: their times change where a file comes or goes.
 SOURCES = $(shell find crates) crates.txt TOOLCHAIN
 
@@ -33,8 +37,10 @@ $(ARCHIVE): $(SOURCES)
 	@rt staticlib lupetzarin >build/library.log 2>&1 || { tail -n 40 build/library.log; exit 1; }
 	@cp target/staticlib/liblupetzarin.a $@
 
-$(SHARED): $(ARCHIVE)
-	$(CC) -shared -o $@ -Wl,--whole-archive $(ARCHIVE) -Wl,--no-whole-archive
+# The calls of the header alone are exported, with their versions; a name that is wanted or listed and that nothing defines is an error.
+$(SHARED): $(ARCHIVE) packaging/lupetzarin.map $(HEADER)
+	$(CC) -shared -o $@ -Wl,-soname,$(SONAME) -Wl,--version-script=packaging/lupetzarin.map -Wl,--no-undefined-version -Wl,-z,defs \
+	    -Wl,--whole-archive $(ARCHIVE) -Wl,--no-whole-archive
 
 $(LIST): $(SOURCES)
 	@mkdir -p build
@@ -65,9 +71,9 @@ build/bench_run: bench/run.c bench/join.c bench/plans.c bench/plain_run.c bench/
 build/join.plan: build/bench_run
 	build/bench_run write $@
 
-# The tests of the Python module need numpy and distributed: Debian's, which the system's own Python sees.
+# The tests of the Python module need numpy and distributed: Debian's, which the system's own Python sees. The others are for what is installed.
 test:
-	@tools/setup python3-numpy python3-distributed
+	@tools/setup python3-numpy python3-distributed python3-pip python3-setuptools python3-venv python3-wheel g++ groff-base man-db pkg-config
 	@tests/run
 
 linked: build/linked
@@ -89,6 +95,50 @@ bench: build/bench build/bench_run build/join.plan $(SHARED)
 	@build/bench_run
 	@/usr/bin/python3 bench/numpy_join.py build/join.plan $(SHARED)
 	@/usr/bin/python3 bench/python_run.py
+
+PREFIX = /usr/local
+BINDIR = $(PREFIX)/bin
+LIBDIR = $(PREFIX)/lib
+INCLUDEDIR = $(PREFIX)/include
+MANDIR = $(PREFIX)/share/man
+PKGCONFIGDIR = $(LIBDIR)/pkgconfig
+DESTDIR =
+INSTALL = install
+DIRECTORIES = $(BINDIR) $(LIBDIR) $(INCLUDEDIR) $(PKGCONFIGDIR) $(MANDIR)/man1 $(MANDIR)/man3
+PAGES = $(MANDIR)/man1/lup.1 $(MANDIR)/man1/lup-list.1 $(MANDIR)/man1/lupasm.1 $(MANDIR)/man3/lupetzarin.3
+INSTALLED = $(BINDIR)/lup $(BINDIR)/lup-list $(BINDIR)/lupasm $(INCLUDEDIR)/lupetzarin.h $(LIBDIR)/liblupetzarin.a $(LIBDIR)/liblupetzarin.so.$(VERSION) \
+            $(LIBDIR)/$(SONAME) $(LIBDIR)/liblupetzarin.so $(PKGCONFIGDIR)/lupetzarin.pc $(PAGES)
+# under FILES: each with DESTDIR in front, for the shell
+under = $(foreach file,$(1),'$(DESTDIR)$(file)')
+
+# The names go into the pkg-config file, where a space would end them; DESTDIR does not.
+expect_directories:
+	@for name in '$(PREFIX)' '$(BINDIR)' '$(LIBDIR)' '$(INCLUDEDIR)' '$(MANDIR)' '$(PKGCONFIGDIR)'; do \
+	    case "$$name" in [!/]* | '' | *[!A-Za-z0-9_./+:~-]*) \
+	        echo "make: '$$name' is no absolute name of letters, digits and _ . / + : ~ - alone: nothing was done" >&2; exit 1;; esac; done
+
+# list is a name for any program; installed it is lup-list. ldconfig is not run: that is the administrator's. mkdir -p, since install -d changes the
+# mode of a directory that is there.
+install: expect_directories $(ARCHIVE) $(SHARED) $(LIST) $(LUP)
+	umask 022 && mkdir -p $(call under,$(DIRECTORIES))
+	$(INSTALL) -m 755 $(LUP) $(call under,$(BINDIR)/lup)
+	$(INSTALL) -m 755 $(LIST) $(call under,$(BINDIR)/lup-list)
+	$(INSTALL) -m 755 host/lupasm.py $(call under,$(BINDIR)/lupasm)
+	$(INSTALL) -m 644 $(HEADER) $(call under,$(INCLUDEDIR)/lupetzarin.h)
+	$(INSTALL) -m 644 $(ARCHIVE) $(call under,$(LIBDIR)/liblupetzarin.a)
+	$(INSTALL) -m 644 $(SHARED) $(call under,$(LIBDIR)/liblupetzarin.so.$(VERSION))
+	ln -sf liblupetzarin.so.$(VERSION) $(call under,$(LIBDIR)/$(SONAME))
+	ln -sf $(SONAME) $(call under,$(LIBDIR)/liblupetzarin.so)
+	$(INSTALL) -m 644 packaging/lupetzarin.pc.in $(call under,$(PKGCONFIGDIR)/lupetzarin.pc)
+	sed -i -e 's|@PREFIX@|$(PREFIX)|' -e 's|@LIBDIR@|$(patsubst $(PREFIX)/%,$${prefix}/%,$(LIBDIR))|' \
+	    -e 's|@INCLUDEDIR@|$(patsubst $(PREFIX)/%,$${prefix}/%,$(INCLUDEDIR))|' -e 's|@VERSION@|$(VERSION)|' $(call under,$(PKGCONFIGDIR)/lupetzarin.pc)
+	$(INSTALL) -m 644 packaging/lup.1 packaging/lup-list.1 packaging/lupasm.1 $(call under,$(MANDIR)/man1)
+	$(INSTALL) -m 644 packaging/lupetzarin.3 $(call under,$(MANDIR)/man3)
+	sed -i 's|@VERSION@|$(VERSION)|' $(call under,$(PAGES))
+
+# Directories stay: others may use them.
+uninstall: expect_directories
+	rm -f $(call under,$(INSTALLED))
 
 clean:
 	rm -rf build target

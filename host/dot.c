@@ -6,10 +6,10 @@
 
 /* The operation, with the slot of a PARAM and the kind of a REDUCE. */
 static void write_operation(const plan *p, size_t node, int64_t operation) {
-    int64_t number = word_of(p, node, WORD_NUMBER);
+    int64_t number = word_of(p, node, LUP_WORD_NUMBER);
     fputs(operation_name(operation), stdout);
-    if (operation == PARAM) printf(" %" PRId64, number);
-    if (operation == REDUCE) fputs(number == 0 ? " sum" : " greatest", stdout);
+    if (operation == LUP_OP_PARAM) printf(" %" PRId64, number);
+    if (operation == LUP_OP_REDUCE) fputs(number == LUP_REDUCE_SUM ? " sum" : " greatest", stdout);
 }
 
 static void write_node(const plan *p, size_t node) {
@@ -29,10 +29,10 @@ static void write_node(const plan *p, size_t node) {
 
 /* Sources are numbered where there are several, since their order counts. */
 static void write_sources(const plan *p, size_t node) {
-    size_t sources = source_count(word_of(p, node, 0));
-    for (size_t k = 1; k <= sources; k++) {
-        printf("    n%" PRId64 " -> n%zu", word_of(p, node, k), node);
-        if (sources > 1) printf(" [label=\"%zu\"]", k);
+    size_t sources = source_count(word_of(p, node, LUP_WORD_OPERATION));
+    for (size_t k = 0; k < sources; k++) {
+        printf("    n%" PRId64 " -> n%zu", word_of(p, node, LUP_WORD_SOURCE + k), node);
+        if (sources > 1) printf(" [label=\"%zu\"]", k + 1);
         puts(";");
     }
 }

@@ -44,18 +44,18 @@ static int read_part(FILE *file, const char *part, uint8_t *bytes, size_t count,
 }
 
 static int read_shape(FILE *file, shape *s, fault *why) {
-    uint8_t bytes[WORD_BYTES * MOST_RANK];
+    uint8_t bytes[WORD_BYTES * LUP_MOST_RANK];
     char text[SHAPE_TEXT];
     if (read_part(file, "first 8 bytes", bytes, MAGIC_BYTES, why) != DONE) return MISUSED;
     if (memcmp(bytes, MAGIC, MAGIC_BYTES) != 0) return find_fault(why, 1, "not a field: it does not begin with " MAGIC);
     if (read_part(file, "rank", bytes, WORD_BYTES, why) != DONE) return MISUSED;
     uint64_t rank = word_at(bytes);
-    if (rank > MOST_RANK) return find_fault(why, 1, "not a field: its rank is %" PRIu64 ", not 0..4", rank);
+    if (rank > LUP_MOST_RANK) return find_fault(why, 1, "not a field: its rank is %" PRIu64 ", not 0..4", rank);
     s->rank = (size_t)rank;
     if (read_part(file, "extents", bytes, s->rank * WORD_BYTES, why) != DONE) return MISUSED;
     for (size_t axis = 0; axis < s->rank; axis++) {
         uint64_t extent = s->extents[axis] = word_at(bytes + axis * WORD_BYTES);
-        if (extent < 1 || extent > MOST_ELEMENTS) return find_fault(why, 1, "not a field: its extent %zu is %" PRIu64 ", not 1..1048576", axis, extent);
+        if (extent < 1 || extent > LUP_MOST_NODE_ELEMENTS) return find_fault(why, 1, "not a field: its extent %zu is %" PRIu64 ", not 1..1048576", axis, extent);
     }
     if (element_count(s) > 0) return DONE;
     write_shape(s, text);

@@ -9,7 +9,7 @@
 #include <string.h>
 #include <sys/stat.h>
 
-int64_t slot_of(const job *j, const input *in) { return word_of(&j->plan, in->node, WORD_NUMBER); }
+int64_t slot_of(const job *j, const input *in) { return word_of(&j->plan, in->node, LUP_WORD_NUMBER); }
 
 static int find_wrong_shape(const job *j, input *in, const shape *found) {
     char wanted[SHAPE_TEXT], text[SHAPE_TEXT];
@@ -61,7 +61,7 @@ int find_inputs(job *j, char **files, size_t nfiles) {
     for (size_t node = 0; node < j->plan.nodes; node++) {
         node_facts f = facts_of(&j->plan, node);
         j->ncells += f.count;
-        if (f.operation != PARAM || j->ninputs == MOST_PARAMS) continue;
+        if (f.operation != LUP_OP_PARAM || j->ninputs == LUP_MOST_PARAMS) continue;
         const char *file = j->ninputs < nfiles ? files[j->ninputs] : "";
         j->inputs[j->ninputs++] = (input){.node = node, .start = j->ninput_cells, .facts = f, .file = file};
         j->ninput_cells += f.count;

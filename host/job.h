@@ -20,7 +20,7 @@ typedef struct {
 /* The plan, its inputs end to end, the elements of all nodes; the files to write, no report where it is NULL; how many inputs may be read as gaps. */
 typedef struct {
     plan plan;
-    input inputs[MOST_PARAMS];
+    input inputs[LUP_MOST_PARAMS];
     size_t ninputs, ninput_cells, ncells, node;
     int64_t *values, *out_values;
     uint8_t *flags, *out_flags;

@@ -1,8 +1,8 @@
 /* lup: plans and fields from the command line, by the proved library. */
 #include "commands.h"
+#include "lupetzarin.h"
 #include "message.h"
 #include "source.h"
-#include "version.h"
 
 #include <stdio.h>
 #include <string.h>

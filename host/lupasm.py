@@ -17,8 +17,8 @@ written a word an axis, as 3x4, and - where there are no axes; a shape has no 0.
     a    = node 6 1=0 9=5 13=1      an operation and its words, for what no other line can say
 
 All rows but the shapes of param and reshape have a word for each axis of the source. Nothing else is checked
-of a plan: `lup check` does. --back unpacks by the library, which is build/liblupetzarin.so or what
-LUPETZARIN_LIBRARY names.
+of a plan: `lup check` does. --back unpacks by the library: what LUPETZARIN_LIBRARY names, else that of the
+checkout or that installed with this program, else what the loader finds under the name liblupetzarin.so.4.
 """
 import argparse
 import ctypes
@@ -30,6 +30,10 @@ import stat
 import sys
 from contextlib import contextmanager, suppress
 
+# as it is called: lupasm.py in the checkout, lupasm where it is installed
+PROGRAM = os.path.basename(__file__)
+# where the library lies, from the folder over this program's own; else the loader is asked for the last part
+LIBRARIES = 'build/liblupetzarin.so', 'lib/liblupetzarin.so.4'
 TYPES = ('bool', 'u8', 'i16', 'i32')
 NODE_WORDS, MOST_NODES = 17, 256
 SOURCE, TYPE, NUMBER, DEVICE, LOW, HIGH, ROW_A, ROW_B = 1, 4, 5, 6, 7, 8, 9, 13
@@ -277,12 +281,18 @@ class Answer(ctypes.Structure):
     _fields_ = [(name, ctypes.c_uint64) for name in ('number', 'place', 'count')]
 
 
+def library_path():
+    """The library's file, or the name that the loader looks for."""
+    root = os.path.dirname(os.path.dirname(os.path.realpath(__file__)))
+    paths = [os.path.join(root, path) for path in LIBRARIES]
+    there = next(filter(os.path.exists, paths), os.path.basename(LIBRARIES[-1]))
+    return os.environ.get('LUPETZARIN_LIBRARY') or there
+
+
 def unpacked(data):
     """The table of packed bytes, by the library."""
-    root = os.path.dirname(os.path.dirname(os.path.abspath(__file__)))
-    beside = os.path.join(root, 'build', 'liblupetzarin.so')
     try:
-        call = ctypes.CDLL(os.environ.get('LUPETZARIN_LIBRARY', beside)).lup_unpack
+        call = ctypes.CDLL(library_path()).lup_unpack
     except (OSError, AttributeError) as error:
         raise FileError(f'the library cannot be loaded: {error}') from None
     call.argtypes, call.restype = [ctypes.c_void_p, ctypes.c_size_t] * 2, Answer
@@ -467,8 +477,8 @@ class Parser(argparse.ArgumentParser):
 
 def asked_of(arguments):
     parser = Parser(
-        prog='lupasm.py', allow_abbrev=False, formatter_class=argparse.RawDescriptionHelpFormatter,
-        usage='lupasm.py TEXT -o PLAN [--check]\n       lupasm.py --back PLAN [-o TEXT] [--check]',
+        prog=PROGRAM, allow_abbrev=False, formatter_class=argparse.RawDescriptionHelpFormatter,
+        usage=f'{PROGRAM} TEXT -o PLAN [--check]\n       {PROGRAM} --back PLAN [-o TEXT] [--check]',
         description=__doc__,
         epilog='A file is written whole or not at all, never over the one that is read or what is no plain file.\n'
                'Exit status: 0 done; 1 --back: refused by the library, with number, place and rule;\n'
@@ -508,7 +518,7 @@ def convert(asked):
 
 def complain(message):
     if sys.stderr:
-        print(f'lupasm.py: {message}', file=sys.stderr)
+        print(f'{PROGRAM}: {message}', file=sys.stderr)
 
 
 def main(arguments):

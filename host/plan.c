@@ -9,7 +9,7 @@
 #include <stdio.h>
 #include <string.h>
 
-/* 256 nodes take at most 11778 bytes, so bytes past these change no answer. */
+/* More than LUP_MOST_PACKED_BYTES, so bytes past these change no answer. */
 #define MOST_BYTES 12288
 #define NAMED(items) (sizeof(items) / sizeof((items)[0]))
 
@@ -42,15 +42,15 @@ static const char *const RULES[] = {
 };
 /* What rule 7 asks of an operation's row and number. */
 static const char *const ROWS[] = {
-    [PARAM] = ": slot not its turn or over 15, low above high, device not 1..255, or no shape",
-    [PERMUTE] = ": not each axis of the source once",
-    [FLIP] = ": not a flag 0 or 1 for each axis of the source",
-    [RESHAPE] = ": no shape",
-    [EXPAND] = ": no shape",
-    [PAD] = ": no shape, or an offset not 0..1048576 or past the rank",
-    [SHRINK] = ": no shape, or an offset not 0..1048576 or past the rank",
-    [REDUCE] = ": number neither 0 nor 1, or not a flag 0 or 1 for each axis of the source",
-    [LOAD] = ": device not 1..255",
+    [LUP_OP_PARAM] = ": slot not its turn or over 15, low above high, device not 1..255, or no shape",
+    [LUP_OP_PERMUTE] = ": not each axis of the source once",
+    [LUP_OP_FLIP] = ": not a flag 0 or 1 for each axis of the source",
+    [LUP_OP_RESHAPE] = ": no shape",
+    [LUP_OP_EXPAND] = ": no shape",
+    [LUP_OP_PAD] = ": no shape, or an offset not 0..1048576 or past the rank",
+    [LUP_OP_SHRINK] = ": no shape, or an offset not 0..1048576 or past the rank",
+    [LUP_OP_REDUCE] = ": number neither 0 nor 1, or not a flag 0 or 1 for each axis of the source",
+    [LUP_OP_LOAD] = ": device not 1..255",
 };
 
 static const char *named(const char *const *names, size_t count, uint64_t number) {
@@ -73,12 +73,12 @@ const char *rule_words(uint64_t number) {
 }
 
 int refuse(const plan *p, uint64_t number, uint64_t place) {
-    if (number >= 2 && number <= 11 && place < MOST_NODES) {
-        int64_t operation = word_of(p, (size_t)place, 0);
-        const char *row = number == 7 ? named(ROWS, NAMED(ROWS), (uint64_t)operation) : NULL;
+    if (number >= LUP_REFUSED_OPERATION && number <= LUP_REFUSED_BOUNDS && place < LUP_MOST_NODES) {
+        int64_t operation = word_of(p, (size_t)place, LUP_WORD_OPERATION);
+        const char *row = number == LUP_REFUSED_ROW_OR_NUMBER ? named(ROWS, NAMED(ROWS), (uint64_t)operation) : NULL;
         complain("%s: refused %" PRIu64 " at node %" PRIu64 " (%s): %s%s", p->name, number, place, operation_name(operation),
                  rule_words(number), row != NULL ? row : "");
-    } else if (number >= 20) {
+    } else if (number >= LUP_REFUSED_PACKED_END) {
         complain("%s: refused %" PRIu64 " at byte %" PRIu64 ": %s", p->name, number, place, rule_words(number));
     } else {
         complain("%s: refused %" PRIu64 ": %s", p->name, number, rule_words(number));
@@ -99,7 +99,8 @@ static int read_bytes(const char *name, uint8_t bytes[MOST_BYTES], size_t *count
 static int refuse_bytes(const plan *p, const uint8_t *bytes, size_t count) {
     int status = refuse(p, p->refused.number, p->refused.place);
     if (looks_like_plan_text(bytes, count))
-        complain("%s: this looks like the text of a plan; assemble it first: python3 host/lupasm.py %s -o PLAN", p->name, p->name);
+        complain("%s: this looks like the text of a plan; assemble it first: lupasm %s -o PLAN (not installed: python3 host/lupasm.py)", p->name,
+                 p->name);
     return status;
 }
 
@@ -110,34 +111,36 @@ int load_plan(const char *name, plan *p) {
     p->name = name;
     if (read_bytes(name, bytes, &count) != DONE) return MISUSED;
     uint64_t code = lup_unpack_check(bytes, count);
-    lup_answer unpacked = lup_unpack(bytes, count, p->table, MOST_NODES * NODE_WORDS);
-    if (code > MOST_NODES) {
-        p->refused = (lup_answer){.number = code / 65536, .place = code % 65536};
+    lup_answer unpacked = lup_unpack(bytes, count, p->table, LUP_MOST_NODES * LUP_NODE_WORDS);
+    if (code > LUP_MOST_NODES) {
+        p->refused = (lup_answer){.number = code / LUP_REFUSAL_CODE, .place = code % LUP_REFUSAL_CODE};
         return refuse_bytes(p, bytes, count);
     }
     p->nodes = (size_t)code;
-    lup_answer checked = lup_check(p->table, p->nodes * NODE_WORDS, p->derived, MOST_NODES * DERIVED_WORDS);
-    int agree = unpacked.number == 0 && unpacked.count == code && checked.number == 0;
+    lup_answer checked = lup_check(p->table, p->nodes * LUP_NODE_WORDS, p->derived, LUP_MOST_NODES * LUP_DERIVED_WORDS);
+    int agree = unpacked.number == LUP_ACCEPTED && unpacked.count == code && checked.number == LUP_ACCEPTED;
     return agree ? DONE : complain("%s: the library's calls disagree on this plan", name);
 }
 
 node_facts facts_of(const plan *p, size_t node) {
-    const int64_t *d = p->derived + node * DERIVED_WORDS;
-    node_facts f = {.operation = word_of(p, node, 0), .dtype = d[0], .device = d[1], .low = d[2], .high = d[3]};
-    while (f.shape.rank < MOST_RANK && d[4 + f.shape.rank] != 0) {
-        f.shape.extents[f.shape.rank] = (uint64_t)d[4 + f.shape.rank];
+    const int64_t *d = p->derived + node * LUP_DERIVED_WORDS;
+    node_facts f = {.operation = word_of(p, node, LUP_WORD_OPERATION), .dtype = d[LUP_DERIVED_TYPE], .device = d[LUP_DERIVED_DEVICE],
+                    .low = d[LUP_DERIVED_LOW], .high = d[LUP_DERIVED_HIGH]};
+    const int64_t *extents = d + LUP_DERIVED_EXTENTS;
+    while (f.shape.rank < LUP_MOST_RANK && extents[f.shape.rank] != 0) {
+        f.shape.extents[f.shape.rank] = (uint64_t)extents[f.shape.rank];
         f.shape.rank++;
     }
     f.count = element_count(&f.shape);
     return f;
 }
 
-int64_t word_of(const plan *p, size_t node, size_t word) { return p->table[node * NODE_WORDS + word]; }
+int64_t word_of(const plan *p, size_t node, size_t word) { return p->table[node * LUP_NODE_WORDS + word]; }
 
 size_t source_count(int64_t operation) {
-    if (operation == CONST || operation == PARAM) return 0;
-    if (operation == WHERE) return 3;
-    return operation > CAST && operation < WHERE ? 2 : 1;
+    if (operation == LUP_OP_CONST || operation == LUP_OP_PARAM) return 0;
+    if (operation == LUP_OP_WHERE) return 3;
+    return operation > LUP_OP_CAST && operation < LUP_OP_WHERE ? 2 : 1;
 }
 
 size_t total_count(const plan *p) {

@@ -5,19 +5,10 @@
 #include "lupetzarin.h"
 #include "shape.h"
 
-#define NODE_WORDS 17
-#define DERIVED_WORDS 8
-#define MOST_NODES 256
-/* Refusal 7: the k-th PARAM has slot k, at most 15. */
-#define MOST_PARAMS 16
-
-enum { CONST, PARAM, PERMUTE, FLIP, RESHAPE, EXPAND, PAD, SHRINK, CAST, WHERE = 18, REDUCE = 19, LOAD = 20 };
-enum { WORD_NUMBER = 5 };
-
 /* A plan as the library unpacked and checked it; refused: number and place, 0 and 0 where it was accepted. */
 typedef struct {
     const char *name;
-    int64_t table[MOST_NODES * NODE_WORDS], derived[MOST_NODES * DERIVED_WORDS];
+    int64_t table[LUP_MOST_NODES * LUP_NODE_WORDS], derived[LUP_MOST_NODES * LUP_DERIVED_WORDS];
     size_t nodes;
     lup_answer refused;
 } plan;

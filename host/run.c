@@ -22,7 +22,7 @@ static int refuse_position(const job *j, uint64_t number, uint64_t position) {
     size_t element = (size_t)position - in->start;
     char place[PLACE_TEXT], limits[PLACE_TEXT] = "";
     write_place(&in->facts.shape, element, place);
-    if (number == 16) snprintf(limits, sizeof limits, ": %" PRId64 ", not %" PRId64 "..%" PRId64, j->values[position], in->facts.low, in->facts.high);
+    if (number == LUP_REFUSED_VALUE) snprintf(limits, sizeof limits, ": %" PRId64 ", not %" PRId64 "..%" PRId64, j->values[position], in->facts.low, in->facts.high);
     complain("%s: refused %" PRIu64 " at element %zu%s%s%s of PARAM %" PRId64 " (node %zu of %s, input position %" PRIu64 "): %s%s", in->file, number,
              element, place[0] != '\0' ? " (" : "", place, place[0] != '\0' ? ")" : "", slot_of(j, in), in->node, j->plan.name, position,
              rule_words(number), limits);
@@ -31,10 +31,10 @@ static int refuse_position(const job *j, uint64_t number, uint64_t position) {
 
 /* The library's run; after it the elements of every node are there. */
 static int compute(job *j) {
-    lup_answer a = lup_run(j->plan.table, j->plan.nodes * NODE_WORDS, j->values, j->ninput_cells, j->flags, j->ninput_cells, j->out_values, j->ncells,
+    lup_answer a = lup_run(j->plan.table, j->plan.nodes * LUP_NODE_WORDS, j->values, j->ninput_cells, j->flags, j->ninput_cells, j->out_values, j->ncells,
                            j->out_flags, j->ncells);
-    if (a.number == 0) return DONE;
-    if ((a.number == 15 || a.number == 16) && a.place < j->ninput_cells) return refuse_position(j, a.number, a.place);
+    if (a.number == LUP_ACCEPTED) return DONE;
+    if ((a.number == LUP_REFUSED_FLAG || a.number == LUP_REFUSED_VALUE) && a.place < j->ninput_cells) return refuse_position(j, a.number, a.place);
     return refuse(&j->plan, a.number, a.place);
 }
 
@@ -135,7 +135,7 @@ int run_command(arguments a) {
                                     [REPORT] = {.name = "--report", .takes_value = 1}};
     job j = {.most_absent = 1};
     int status = take_options(&a, options, OPTION_COUNT);
-    if (status == DONE) status = expect_words(&a, 1, 1 + MOST_PARAMS, "one PLAN and at most 16 INPUTs");
+    if (status == DONE) status = expect_words(&a, 1, 1 + LUP_MOST_PARAMS, "one PLAN and at most 16 INPUTs");
     if (status != DONE) return status;
     if (options[WRITTEN].value == NULL) return complain("run: -o FIELD is not given; see lup run --help");
     if (options[ABSENT].value != NULL && read_number(&a, "--missing", options[ABSENT].value, UINT64_MAX, &j.most_absent) != DONE) return MISUSED;

@@ -6,10 +6,10 @@
 
 size_t element_count(const shape *s) {
     uint64_t count = 1;
-    if (s->rank > MOST_RANK) return 0;
+    if (s->rank > LUP_MOST_RANK) return 0;
     for (size_t axis = 0; axis < s->rank; axis++) {
         uint64_t extent = s->extents[axis];
-        if (extent < 1 || extent > MOST_ELEMENTS / count) return 0;
+        if (extent < 1 || extent > LUP_MOST_NODE_ELEMENTS / count) return 0;
         count *= extent;
     }
     return (size_t)count;

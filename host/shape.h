@@ -2,17 +2,14 @@
 #ifndef SHAPE_H
 #define SHAPE_H
 
-#include <stddef.h>
-#include <stdint.h>
+#include "lupetzarin.h"
 
-#define MOST_RANK 4
-#define MOST_ELEMENTS 1048576
 #define SHAPE_TEXT 96
 #define PLACE_TEXT 160
 
 typedef struct {
     size_t rank;
-    uint64_t extents[MOST_RANK];
+    uint64_t extents[LUP_MOST_RANK];
 } shape;
 
 /* How a field is drawn: pictures one after another, each of rows and columns. */

@@ -17,6 +17,117 @@
 extern "C" {
 #endif
 
+/* The version of this header; CHANGELOG.md says what a version promises. LUP_VERSION is one number, to compare; LUP_VERSION_TEXT has points between. */
+#define LUP_VERSION_MAJOR 4
+#define LUP_VERSION_MINOR 0
+#define LUP_VERSION_PATCH 0
+#define LUP_VERSION (LUP_VERSION_MAJOR * 1000000 + LUP_VERSION_MINOR * 1000 + LUP_VERSION_PATCH)
+#define LUP_VERSION_JOINED(major, minor, patch) #major "." #minor "." #patch
+#define LUP_VERSION_OF(major, minor, patch) LUP_VERSION_JOINED(major, minor, patch)
+#define LUP_VERSION_TEXT LUP_VERSION_OF(LUP_VERSION_MAJOR, LUP_VERSION_MINOR, LUP_VERSION_PATCH)
+
+/* Widths, in words of 64 bits, and limits. */
+enum lup_limit {
+    LUP_NODE_WORDS = 17,              /* of a node in a table */
+    LUP_DERIVED_WORDS = 8,            /* of what lup_check derives of a node */
+    LUP_MOST_NODES = 256,             /* in a plan, which has at least 1 */
+    LUP_MOST_RANK = 4,                /* axes of a node; a rank may be 0 */
+    LUP_MOST_PARAMS = 16,             /* in a plan, which may have none */
+    LUP_MOST_DEVICE = 255,            /* the greatest device that a node can name; the least is 1 */
+    LUP_MOST_NODE_ELEMENTS = 1048576, /* of one node, and on one axis */
+    LUP_MOST_ELEMENTS = 4194304,      /* of all nodes together */
+    LUP_MOST_PACKED_BYTES = 11778,    /* of a packed plan */
+    LUP_REFUSAL_CODE = 65536          /* lup_unpack_check answers a refusal as this times its number, plus its place */
+};
+
+/* Word 0 of a node. */
+enum lup_operation {
+    LUP_OP_CONST = 0,    /* one number */
+    LUP_OP_PARAM = 1,    /* input */
+    LUP_OP_PERMUTE = 2,  /* axes in another order */
+    LUP_OP_FLIP = 3,     /* axes reversed */
+    LUP_OP_RESHAPE = 4,  /* the same elements in another shape */
+    LUP_OP_EXPAND = 5,   /* axes of extent 1 repeated */
+    LUP_OP_PAD = 6,      /* gaps around */
+    LUP_OP_SHRINK = 7,   /* a part */
+    LUP_OP_CAST = 8,     /* another type */
+    LUP_OP_ADD = 9,      /* x + y */
+    LUP_OP_MUL = 10,     /* x * y */
+    LUP_OP_MAX = 11,     /* the greater of two */
+    LUP_OP_IDIV = 12,    /* the quotient, rounded down */
+    LUP_OP_MOD = 13,     /* what is left then: it has the sign of y */
+    LUP_OP_CMPLT = 14,   /* x < y */
+    LUP_OP_CMPNE = 15,   /* x != y */
+    LUP_OP_AND = 16,     /* both */
+    LUP_OP_OR = 17,      /* one of them, or both */
+    LUP_OP_WHERE = 18,   /* one of two, by a condition */
+    LUP_OP_REDUCE = 19,  /* axes gathered into one number */
+    LUP_OP_LOAD = 20     /* another device */
+};
+
+/* Type of a node: which numbers it may have. */
+enum lup_type {
+    LUP_TYPE_BOOL = 0, /* 0, 1 */
+    LUP_TYPE_U8 = 1,   /* 0..255 */
+    LUP_TYPE_I16 = 2,  /* -32768..32767 */
+    LUP_TYPE_I32 = 3   /* -2147483648..2147483647 */
+};
+
+/* Words of a node. One that its operation does not use is 0. */
+enum lup_word {
+    LUP_WORD_OPERATION = 0,
+    LUP_WORD_SOURCE = 1, /* the first of three: numbers of earlier nodes */
+    LUP_WORD_TYPE = 4,   /* CONST, PARAM, CAST */
+    LUP_WORD_NUMBER = 5, /* CONST: its number; PARAM: its slot; REDUCE: its kind */
+    LUP_WORD_DEVICE = 6, /* PARAM, LOAD */
+    LUP_WORD_LOW = 7,    /* PARAM: the least number of its input */
+    LUP_WORD_HIGH = 8,   /* PARAM: the greatest */
+    LUP_WORD_ROW_A = 9,  /* the first of four: a shape, a permutation or flags */
+    LUP_WORD_ROW_B = 13  /* the first of four, PAD and SHRINK: offsets */
+};
+
+/* Kind of a REDUCE. */
+enum lup_reduce { LUP_REDUCE_SUM = 0, LUP_REDUCE_GREATEST = 1 };
+
+/* Words of what lup_check derives of a node. */
+enum lup_derived {
+    LUP_DERIVED_TYPE = 0,
+    LUP_DERIVED_DEVICE = 1, /* 0: none */
+    LUP_DERIVED_LOW = 2,    /* no known number of the node is less */
+    LUP_DERIVED_HIGH = 3,   /* or greater */
+    LUP_DERIVED_EXTENTS = 4 /* the first of four, zeros past the rank */
+};
+
+/* Numbers of refusals, and in brackets what their place is, where they have one. 18 and 19 are not given. */
+enum lup_refusal {
+    LUP_ACCEPTED = 0,
+    LUP_REFUSED_LENGTH = 1,            /* length no multiple of 17, or not 1..256 nodes */
+    LUP_REFUSED_OPERATION = 2,         /* operation not 0..20 (node) */
+    LUP_REFUSED_UNUSED_WORD = 3,       /* unused word not zero (node) */
+    LUP_REFUSED_SOURCE = 4,            /* source negative or not earlier (node) */
+    LUP_REFUSED_TYPE = 5,              /* type not 0..3 (node) */
+    LUP_REFUSED_OPERAND_TYPES = 6,     /* type rule broken (operands differ, bool misplaced, or WHERE condition not bool) (node) */
+    LUP_REFUSED_ROW_OR_NUMBER = 7,     /* row or number wrong (node) */
+    LUP_REFUSED_SHAPE = 8,             /* shapes disagree, or over 1048576 elements (node) */
+    LUP_REFUSED_DEVICES = 9,           /* two devices (node) */
+    LUP_REFUSED_DIVISOR = 10,          /* divisor bounds contain 0 (node) */
+    LUP_REFUSED_BOUNDS = 11,           /* bounds leave the type (node) */
+    LUP_REFUSED_ELEMENTS = 12,         /* all nodes together over 4194304 elements */
+    LUP_REFUSED_INPUT_LENGTH = 13,     /* input length is not the PARAM total */
+    LUP_REFUSED_ROOM = 14,             /* a buffer written to is too short */
+    LUP_REFUSED_FLAG = 15,             /* flag neither 0 nor 1 (position) */
+    LUP_REFUSED_VALUE = 16,            /* known number outside limits (position) */
+    LUP_REFUSED_LOOKUP = 17,           /* lookup node or element not there */
+    LUP_REFUSED_PACKED_END = 20,       /* bytes end before or inside a number (byte) */
+    LUP_REFUSED_PACKED_NUMBER = 21,    /* number not in its shortest form of at most 5 bytes (byte) */
+    LUP_REFUSED_PACKED_REST = 22,      /* bytes left over (byte) */
+    LUP_REFUSED_PACKED_COUNT = 23,     /* node count not 1..256 */
+    LUP_REFUSED_PACKED_OPERATION = 24  /* operation not 0..20 (byte) */
+};
+
+/* What a lookup found. */
+enum lup_finding { LUP_FOUND_NOTHING = 0, LUP_FOUND_PLACE = 1, LUP_FOUND_GAP = 2 };
+
 /* number: 0 accepted, else the refusal; place: the byte, the node or the input position of the refusal, 0 where none is named; count: what the call
  * counts, 0 on a refusal. */
 typedef struct {
@@ -27,6 +138,9 @@ typedef struct {
 typedef struct {
     uint64_t number, place, found, node, element;
 } lup_found;
+
+/* The version of the library that is linked, as LUP_VERSION; compare it with that macro of the header that was compiled. Stack: 1 KiB is enough. */
+uint64_t lup_version(void);
 
 /* Unpacks a packed plan into table, 17 words a node; words past them stay as they were. count: the nodes, 1..256. Refusals, in order: 20, 21
  * and 23 of the node count; 14, table has fewer than 17 words a node; 20, 21 and 24 in byte order; 22.

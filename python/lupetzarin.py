@@ -27,8 +27,11 @@ for a gap. Join masked arrays with numpy.ma.concatenate: numpy.concatenate drops
 Memory is handed to the library as it is, without a copy, where it is what the header asks for: int64 (flags: uint8
 or bool) in the machine's byte order, contiguous, at a multiple of 8 bytes; it may be read-only, as the library only
 reads it. All else is copied first. What a call writes is fresh memory of this module, so it overlaps nothing.
-Results are numpy arrays where numpy can be imported, else arrays of array.array. The library is
-build/liblupetzarin.so beside this directory, or what LUPETZARIN_LIBRARY names.
+Results are numpy arrays where numpy can be imported, else arrays of array.array.
+
+The library is what LUPETZARIN_LIBRARY names; else liblupetzarin.so beside this file, where pip puts it; else
+build/liblupetzarin.so of the checkout; else what the loader finds under the name liblupetzarin.so.4. One of another
+major version is an ImportError. __version__ is this module's version, version() the library's.
 """
 
 from __future__ import annotations
@@ -51,8 +54,9 @@ if TYPE_CHECKING:
     Memory = Union['array[int]', memoryview, 'numpy.ndarray[Any, Any]']
     Numbers = Union[Iterable[int], Memory]
 
+__version__ = '4.0.0'
 __all__ = ['DTYPES', 'FILL_VALUE', 'OPERATIONS', 'Place', 'Plan', 'RULES', 'Record', 'Refused', 'Result', 'check',
-           'lookup', 'run', 'unpack', 'unpack_check']
+           'lookup', 'run', 'unpack', 'unpack_check', 'version']
 
 NODE_WORDS, RECORD_WORDS, MOST_NODES, NUMBER_WORD, PARAM, BOOL = 17, 8, 256, 5, 1, 0
 DTYPES = ('bool', 'u8', 'i16', 'i32')
@@ -173,9 +177,34 @@ class _Found(ctypes.Structure):
     _fields_ = [(name, ctypes.c_uint64) for name in ('number', 'place', 'found', 'node', 'element')]
 
 
+_MAJOR = int(__version__.partition('.')[0])
+
+
+def _path() -> str:
+    """The library's file, or the name that the loader looks for."""
+    folder = os.path.dirname(os.path.abspath(__file__))
+    places = folder, os.path.join(os.path.dirname(folder), 'build')
+    paths = [os.path.join(place, 'liblupetzarin.so') for place in places]
+    there = next(filter(os.path.exists, paths), f'liblupetzarin.so.{_MAJOR}')
+    return os.environ.get('LUPETZARIN_LIBRARY') or there
+
+
+def _opened(path: str) -> ctypes.CDLL:
+    """The library of that path, if it is of this major version: the calls of another one may mean something else."""
+    try:
+        library = ctypes.CDLL(path)
+        library.lup_version.argtypes, library.lup_version.restype = [], ctypes.c_uint64
+        number = library.lup_version()
+    except (OSError, AttributeError) as error:
+        raise ImportError(f'lupetzarin: the library {path!r} cannot be loaded: {error}') from None
+    if number // 1000000 != _MAJOR:
+        found = f'{number // 1000000}.{number // 1000 % 1000}.{number % 1000}'
+        raise ImportError(f'lupetzarin: the library {path!r} is version {found}, and this module is {__version__}')
+    return library
+
+
 def _load() -> ctypes.CDLL:
-    beside = os.path.join(os.path.dirname(os.path.dirname(os.path.abspath(__file__))), 'build', 'liblupetzarin.so')
-    library = ctypes.CDLL(os.environ.get('LUPETZARIN_LIBRARY', beside))
+    library = _opened(_path())
     buffer = [ctypes.c_void_p, ctypes.c_size_t]
     calls = (('unpack', 2, 0, _Answer), ('check', 2, 0, _Answer), ('run', 5, 0, _Answer), ('lookup', 1, 2, _Found),
              ('unpack_check', 1, 0, ctypes.c_uint64))
@@ -447,6 +476,12 @@ def _derived(table: Memory) -> list[Record]:
     nodes = range(len(table) // NODE_WORDS)
     rows = [derived[RECORD_WORDS * node:RECORD_WORDS * (node + 1)].tolist() for node in nodes]
     return [Record(*row[:4], tuple(extent for extent in row[4:] if extent)) for row in rows]
+
+
+def version() -> int:
+    """The version of the library that is loaded: 1000000 times the major number plus 1000 times the minor number
+    plus the patch. That of this module, as text, is __version__."""
+    return _LIBRARY.lup_version()
 
 
 def unpack(data: Numbers) -> Memory:

@@ -88,9 +88,10 @@ def declared():
 
 
 def exported():
-    """The symbols that the shared object defines."""
+    """The functions and data that the shared object defines, without their versions and the names of those."""
     listed = subprocess.run(['nm', '-D', '--defined-only', SHARED_OBJECT], check=True, capture_output=True, text=True)
-    return {line.split()[-1] for line in listed.stdout.splitlines()}
+    symbols = [line.split()[-2:] for line in listed.stdout.splitlines()]
+    return {name.partition('@')[0] for kind, name in symbols if kind != 'A'}
 
 
 class Library:

@@ -153,6 +153,7 @@ static void lookup_examples(void) {
 }
 
 int main(void) {
+    expect(lup_version() == LUP_VERSION, "the version of the header");
     unpack_examples();
     check_examples();
     run_examples();

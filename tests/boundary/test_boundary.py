@@ -218,8 +218,8 @@ def test_unpack_check(tally, library, rng, count):
 
 
 TESTS = {'lup_unpack': test_unpack, 'lup_check': test_check, 'lup_unpack_check': test_unpack_check}
-# test_run.py drives lup_run, test_lookup.py lup_lookup.
-TESTED = {*TESTS, 'lup_run', 'lup_lookup'}
+# test_run.py drives lup_run, test_lookup.py lup_lookup, tests/host/test_install.py compares what lup_version answers.
+TESTED = {*TESTS, 'lup_run', 'lup_lookup', 'lup_version'}
 
 
 def main():

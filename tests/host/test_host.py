@@ -109,7 +109,7 @@ NO_TEXTS = [b'wind', b'', b'a = b\0', b'a = \x01', b'a = \x7f', b'a = \x1b', b'a
 
 def test_plan_text(tally, lup):
     """The text of a plan in place of the plan: refused as ever, and a second line that says what to do."""
-    second = 'lup: bay.lup: this looks like the text of a plan; assemble it first: python3 host/lupasm.py bay.lup -o PLAN\n'
+    second = 'lup: bay.lup: this looks like the text of a plan; assemble it first: lupasm bay.lup -o PLAN (not installed: python3 host/lupasm.py)\n'
     with open(os.path.join(ROOT, 'demo', 'bay.lup'), 'rb') as file:
         several = [(data, second) for data in (file.read(), *TEXTS)] + [(data, '') for data in NO_TEXTS]
     for data, more in several:
@@ -1460,7 +1460,7 @@ def test_misuse(tally, lup):
 
 def test_version(tally, lup):
     """The version is that of the header, which has it once."""
-    with open(os.path.join(ROOT, 'host', 'version.h'), encoding='ascii') as file:
+    with open(os.path.join(ROOT, 'include', 'lupetzarin.h'), encoding='ascii') as file:
         parts = dict(re.findall(r'^#define LUP_VERSION_(MAJOR|MINOR|PATCH) (\d+)$', file.read(), re.M))
     tally.same('--version', lup.run('--version'), (0, 'lup {MAJOR}.{MINOR}.{PATCH}\n'.format(**parts), ''))
 

@@ -384,7 +384,7 @@ def test_sequences(tally, lups):
 def c_words(text, name):
     """The words of a table of host/plan.c, by their index."""
     body = text[text.index(f'const {name}[] = {{'):]
-    return dict(re.findall(r'\[(\w+)\] = "(?:: )?([^"]*)"', body[:body.index('};')]))
+    return dict(re.findall(r'\[(?:LUP_OP_)?(\w+)\] = "(?:: )?([^"]*)"', body[:body.index('};')]))
 
 
 def test_rules(tally, lups):

@@ -9,6 +9,7 @@ import contextlib
 import glob
 import io
 import os
+import re
 import shutil
 import subprocess
 import sys
@@ -178,16 +179,19 @@ def test_cases(tally):
 
 def test_run(tally):
     """tests/run counts by steps.sh, ends with it, and runs every test and every program of tests/tools; that of Python
-    by the system's own Python, for whose numpy the Makefile asks."""
+    and of the installation by the system's own Python, for whose packages the Makefile asks."""
     with open(os.path.join(ROOT, 'tests', 'run'), encoding='utf-8') as file:
         text = file.read()
     tally.same('tests/run', ('\n. tests/tools/steps.sh\n' in text, text.endswith('\nfinish\n')), (True, True))
     paths = {*glob.glob('tests/*/test_*.py', root_dir=ROOT), *glob.glob('tests/tools/*.py', root_dir=ROOT)}
     for path in sorted(paths - {'tests/tools/counting.py'}):
         tally.holds((path, 'is run'), f' python3 {path}' in text or f' /usr/bin/python3 {path}\n' in text)
-    tally.holds('by the system\'s own Python', ' /usr/bin/python3 tests/python/test_python.py\n' in text)
+    for path in ('tests/python/test_python.py', 'tests/host/test_install.py'):
+        tally.holds((path, 'by the system\'s own Python'), f' /usr/bin/python3 {path}\n' in text)
     with open(os.path.join(ROOT, 'Makefile'), encoding='utf-8') as file:
-        tally.holds('numpy is asked for', '\ntest:\n\t@tools/setup python3-numpy python3-distributed\n\t@tests/run\n' in file.read())
+        asked = re.search(r'\ntest:\n\t@tools/setup (.*)\n\t@tests/run\n', file.read())
+    for package in ('python3-numpy', 'python3-distributed', 'python3-pip', 'python3-setuptools', 'python3-venv', 'python3-wheel', 'g++', 'groff-base', 'man-db', 'pkg-config'):
+        tally.holds((package, 'is asked for'), asked and package in asked[1].split())
 
 
 # Made-up programs for tools/setup: what is installed stands in a file, and what apt-get was asked for in another.
