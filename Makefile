@@ -73,7 +73,7 @@ build/join.plan: build/bench_run
 
 # The tests of the Python module need numpy and distributed: Debian's, which the system's own Python sees. The others are for what is installed.
 test:
-	@tools/setup python3-numpy python3-distributed python3-pip python3-setuptools python3-venv python3-wheel g++ groff-base man-db pkg-config
+	@tools/setup libpng-dev pkg-config python3-numpy python3-distributed python3-pip python3-setuptools python3-venv python3-wheel g++ groff-base man-db
 	@tests/run
 
 linked: build/linked

@@ -190,7 +190,7 @@ def test_run(tally):
         tally.holds((path, 'by the system\'s own Python'), f' /usr/bin/python3 {path}\n' in text)
     with open(os.path.join(ROOT, 'Makefile'), encoding='utf-8') as file:
         asked = re.search(r'\ntest:\n\t@tools/setup (.*)\n\t@tests/run\n', file.read())
-    for package in ('python3-numpy', 'python3-distributed', 'python3-pip', 'python3-setuptools', 'python3-venv', 'python3-wheel', 'g++', 'groff-base', 'man-db', 'pkg-config'):
+    for package in ('libpng-dev', 'python3-numpy', 'python3-distributed', 'python3-pip', 'python3-setuptools', 'python3-venv', 'python3-wheel', 'g++', 'groff-base', 'man-db', 'pkg-config'):
         tally.holds((package, 'is asked for'), asked and package in asked[1].split())
 
 
