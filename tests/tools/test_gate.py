@@ -185,7 +185,8 @@ def test_run(tally):
     paths = {*glob.glob('tests/*/test_*.py', root_dir=ROOT), *glob.glob('tests/tools/*.py', root_dir=ROOT)}
     for path in sorted(paths - {'tests/tools/counting.py'}):
         tally.holds((path, 'is run'), f' python3 {path}' in text or f' /usr/bin/python3 {path}\n' in text)
-    tally.holds('by the system\'s own Python', ' /usr/bin/python3 tests/python/test_python.py\n' in text)
+    for name in ('test_python', 'test_cluster'):
+        tally.holds('by the system\'s own Python', f' /usr/bin/python3 tests/python/{name}.py\n' in text)
     with open(os.path.join(ROOT, 'Makefile'), encoding='utf-8') as file:
         tally.holds('numpy is asked for', '\ntest:\n\t@tools/setup python3-numpy python3-distributed\n\t@tests/run\n' in file.read())
 
