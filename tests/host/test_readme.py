@@ -216,7 +216,7 @@ def test_calls(tally, page, shell):
     compiled(tally, shell, page.take('#include "lupetzarin.h"'), FIRST)
     tally.same('an accepted plan', shell.type('build/snippet <small.plan'), (0, '0 0 34 2\n0 1 0 1\n2 4\n', ''))
     status, text, _ = shell.type('build/snippet </dev/null')
-    tally.same('no bytes', (status, text.splitlines()[0]), (0, 'refused 20 at 0'))
+    tally.same('no bytes', (status, text.split('\n')[0]), (0, 'refused 20 at 0'))
     rows = re.findall(r'^\| `(lup_\w+)\((.*?)\)` \|', page.text, re.M)
     header = dict(re.findall(r'^\w+ (lup_\w+)\((.*?)\);', read('include', 'lupetzarin.h'), re.M | re.S))
     tally.same('every call', sorted(name for name, _ in rows), sorted(header))
