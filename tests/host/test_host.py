@@ -1338,7 +1338,8 @@ def test_broken_input(tally, lup):
     before = lup.files()
     for call, data, words in ((('show', '-'), field_bytes((2,), [7, 9]), 'it'), (('check', '-'), pack(PADDED), 'the plan'),
                               (('run', 'p.plan', '-', '-o', 'x.out', '--missing', '9', '--damaged-as-gaps'), field_bytes((2,), [7, 9]), 'it'),
-                              (('show', '-'), field_bytes((2,), [7, 9])[:-1], 'it'), (('show', '-'), b'', 'it')):
+                              (('show', '-'), field_bytes((2,), [7, 9])[:-1], 'it'), (('show', '-'), b'', 'it'),
+                              (('show', '-'), field_bytes((2,), [7, 9], (-9, 9)), 'it'), (('show', '-'), field_bytes((2,), [7, 9], (-9, 9))[:-1], 'it')):
         near = broken_input(data)
         tally.same(('an error at its end', call, len(data)), lup.run(*call, stdin=near), (2, '', f'lup: -: {words} cannot be read: Input/output error\n'))
         os.close(near)
