@@ -8,7 +8,6 @@ usage: test_readme.py     last line: 'N passed, 0 failed'
 
 import os
 import re
-import subprocess
 import sys
 import tempfile
 from itertools import product
@@ -45,7 +44,8 @@ class Checkout(Program):
     def __init__(self, folder):
         super().__init__('/bin/sh', folder)
         for name in set(os.listdir(ROOT)) - {'.git', 'build', 'target', 'tools'}:
-            os.symlink(os.path.join(ROOT, name), self.at(name))
+            if not name.endswith(('.lup', '.plan', '.field')):
+                os.symlink(os.path.join(ROOT, name), self.at(name))
         for name, text in (('bin/rt', RT), ('tools/setup', SETUP)):
             os.makedirs(os.path.dirname(self.at(name)), exist_ok=True)
             os.chmod(self.at(self.put(name, text.encode())), 0o755)
@@ -99,7 +99,7 @@ def test_commands(tally, page, shell):
     """`make demo` in a checkout where nothing is built: it builds everything, and joins the strips; `make test` is a target."""
     lines = dict(re.split(r' +# ', line) for line in page.take('make demo').splitlines())
     tally.same('two commands', list(lines), ['make demo', 'make test'])
-    status, text, errors = shell.type('make demo')
+    status, text, errors = shell.type('make demo', timeout=600)
     tally.same('make demo', (status, errors), (0, 2 * 'missing: demo/strip-07.field (PARAM 7, 16x5): read as gaps\n'))
     tally.holds('builds everything', lines['make demo'].startswith('builds everything'), lines)
     built = [name for name in ('liblupetzarin.a', 'liblupetzarin.so', 'list', 'lup') if os.path.isfile(shell.at(f'build/{name}'))]
