@@ -2,7 +2,7 @@
 # make test   proves every crate, then runs the tests outside Rattle; its last line is 'N passed, 0 failed'
 # make linked a C program over the header and the archive; its last line is 'N passed, 0 failed'
 # make fuzz   every export on random and mutated inputs, FUZZ_SECONDS long (60); FUZZ_SEED chooses them
-# make demo   the main job on example data
+# make demo   builds as make does, then the main job on example data
 # make bench  speed, as ratios measured in one run
 # make install, make uninstall   programs, header, libraries, pkg-config file and man pages under PREFIX (/usr/local); DESTDIR: a folder to put in front of it
 .PHONY: all test linked fuzz demo bench install uninstall expect_directories clean
@@ -84,7 +84,10 @@ FUZZ_SEED = 1
 fuzz: build/fuzz
 	@build/fuzz $(FUZZ_SECONDS) $(FUZZ_SEED)
 
-demo: $(LUP)
+# The packages come first: what is built may need them.
+demo:
+	@tools/setup libpng-dev pkg-config
+	@$(MAKE) --no-print-directory all
 	@demo/run
 
 # numpy is Debian's python3-numpy, which the system's own Python sees.

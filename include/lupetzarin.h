@@ -154,7 +154,7 @@ lup_answer lup_unpack(const uint8_t *bytes, size_t nbytes, int64_t *table, size_
 lup_answer lup_check(const int64_t *table, size_t nwords, int64_t *derived, size_t nderived);
 
 /* Unpacks and checks in one call. The answer is the node count, 1..256, or, refused, 65536 times the number plus the place: a refusal of
- * lup_unpack with room for every plan, or of lup_check.
+ * lup_unpack with room for every plan, or of lup_check, 4 to 12: unpacked words break none of 1 to 3.
  * Stack: 64,272 bytes measured in the same way; 80 KiB is enough. */
 uint64_t lup_unpack_check(const uint8_t *bytes, size_t nbytes);
 

@@ -24,6 +24,13 @@ A masked array (numpy.ma) is taken as the values of a run and nowhere else. It c
 is not masked; flags that are given besides have to say the same. Other values need flags: 1 for a known number, 0
 for a gap. Join masked arrays with numpy.ma.concatenate: numpy.concatenate drops their masks.
 
+To a worker of distributed (dask) a masked array is handed with pure=False, and scattered with hash=False:
+
+    result = client.submit(plan.run, masked, pure=False).result()
+
+Else the call is named after its arguments: of most masked arrays no name can be made, and of those of 8 bits it leaves
+out the mask, so that the result for one mask would be given for another.
+
 Memory is handed to the library as it is, without a copy, where it is what the header asks for: int64 (flags: uint8
 or bool) in the machine's byte order, contiguous, at a multiple of 8 bytes; it may be read-only, as the library only
 reads it. All else is copied first. What a call writes is fresh memory of this module, so it overlaps nothing.

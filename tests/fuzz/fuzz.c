@@ -2,8 +2,9 @@
  * it or after it in turn, so that a read or a write past either end stops the program, which then names the seed, the turn
  * and the call. A refusal must leave every buffer as it was, an accepted call every place that it does not write; what it
  * writes must keep what the header says.
- * A case is a kind of input to one export, an answer of one export, or an operation in a run: it has to be met, and all that
- * is asked of it has to hold. So the number of cases is the same however long the program runs: it runs for the seconds, and
+ * A case is a kind of input to one export, an answer that an export can give, or an operation in a run: it has to be met, and
+ * all that is asked of it has to hold; an answer that the export cannot give is a failure. Where several refusals hold, the
+ * one that comes first by the header is asked for. So the number of cases is the same however long the program runs: it runs for the seconds, and
  * for LEAST_TURNS turns if those take longer.
  * usage: fuzz SECONDS [SEED]     last line: 'N passed, 0 failed', N the number of cases; the line before it: the calls */
 #define _DEFAULT_SOURCE
@@ -18,7 +19,8 @@
 #include <unistd.h>
 
 enum { NODE = 17, RECORD = 8, MOST_NODES = 256, MOST_WORDS = NODE * (MOST_NODES + 2), MOST_CELLS = 1 << 15, MOST_BYTES = 13000 };
-enum { PARAM = 1, PERMUTE = 2, PAD = 6, SHRINK = 7, REDUCE = 19, LOAD = 20, OPERATIONS = 21 };
+enum { PARAM = 1, PERMUTE = 2, RESHAPE = 4, EXPAND = 5, PAD = 6, SHRINK = 7, IDIV = 12, REDUCE = 19, LOAD = 20, OPERATIONS = 21 };
+enum { BOOL, U8, I16, I32 };
 
 static unsigned long turn, seed, completed;
 
@@ -30,9 +32,10 @@ static const char *const exports[EXPORTS] = {"lup_unpack", "lup_check", "lup_unp
 
 /* What is given to which export. */
 enum {
-    PACKED, PACKED_NO_ROOM, SPOILT, CODE_PACKED, CODE_SPOILT, GROWN, UNPACKED, PLAN, PLAN_NO_ROOM, WORDS, NO_NODES,
-    GOOD, FEW_VALUES, FEW_FLAGS, NO_VALUE_ROOM, NO_FLAG_ROOM, BAD_FLAG, BAD_NUMBER, RUN_WORDS,
-    FOLLOWED, NOT_FOLLOWED, NO_NODE, NO_ELEMENT, LOOKUP_WORDS, KINDS
+    PACKED, PACKED_NO_ROOM, SPOILT, FAULTY_PACKED, CODE_PACKED, CODE_SPOILT, CODE_FAULTY,
+    GROWN, UNPACKED, PLAN, PLAN_NO_ROOM, WORDS, FAULTY, NO_NODES,
+    GOOD, OTHER_VALUES, OTHER_FLAGS, NO_VALUE_ROOM, NO_FLAG_ROOM, BAD_FLAG, BAD_NUMBER, RUN_WORDS, RUN_FAULTY,
+    FOLLOWED, NOT_FOLLOWED, NO_NODE, NO_ELEMENT, LOOKUP_WORDS, LOOKUP_FAULTY, KINDS
 };
 typedef struct {
     int export;
@@ -43,37 +46,43 @@ static kind kinds[KINDS] = {
     [PACKED] = {UNPACK, "a packed plan, room for it", 0, 0},
     [PACKED_NO_ROOM] = {UNPACK, "a packed plan, too little room", 0, 0},
     [SPOILT] = {UNPACK, "a packed plan with bytes changed or taken out", 0, 0},
+    [FAULTY_PACKED] = {UNPACK, "a packed plan that breaks rules or is too large", 0, 0},
     [CODE_PACKED] = {UNPACK_CHECK, "a packed plan", 0, 0},
     [CODE_SPOILT] = {UNPACK_CHECK, "a packed plan with bytes changed or taken out", 0, 0},
+    [CODE_FAULTY] = {UNPACK_CHECK, "a packed plan that breaks rules or is too large", 0, 0},
     [GROWN] = {CHECK, "an accepted plan with one node more", 0, 0},
     [UNPACKED] = {CHECK, "a plan that was unpacked", 0, 0},
     [PLAN] = {CHECK, "an accepted plan, room for its words", 0, 0},
     [PLAN_NO_ROOM] = {CHECK, "an accepted plan, too little room", 0, 0},
     [WORDS] = {CHECK, "a plan with words changed", 0, 0},
+    [FAULTY] = {CHECK, "a plan that breaks rules or is too large", 0, 0},
     [NO_NODES] = {CHECK, "a length that is not 1 to 256 nodes", 0, 0},
     [GOOD] = {RUN, "an accepted plan with good input", 0, 0},
-    [FEW_VALUES] = {RUN, "a value too few", 0, 0},
-    [FEW_FLAGS] = {RUN, "a flag too few", 0, 0},
+    [OTHER_VALUES] = {RUN, "a value too few or too many", 0, 0},
+    [OTHER_FLAGS] = {RUN, "a flag too few or too many", 0, 0},
     [NO_VALUE_ROOM] = {RUN, "too little room for values", 0, 0},
     [NO_FLAG_ROOM] = {RUN, "too little room for flags", 0, 0},
     [BAD_FLAG] = {RUN, "a flag neither 0 nor 1", 0, 0},
     [BAD_NUMBER] = {RUN, "a number outside its limits", 0, 0},
     [RUN_WORDS] = {RUN, "a plan with words changed, any input", 0, 0},
+    [RUN_FAULTY] = {RUN, "a plan that breaks rules or is too large, any input", 0, 0},
     [FOLLOWED] = {LOOKUP, "an element of a node that is followed", 0, 0},
     [NOT_FOLLOWED] = {LOOKUP, "an element of a node that is not followed", 0, 0},
     [NO_NODE] = {LOOKUP, "a node that is not there", 0, 0},
     [NO_ELEMENT] = {LOOKUP, "an element that is not there", 0, 0},
     [LOOKUP_WORDS] = {LOOKUP, "a plan with words changed, any node and element", 0, 0},
+    [LOOKUP_FAULTY] = {LOOKUP, "a plan that breaks rules or is too large, any node and element", 0, 0},
 };
 
-/* The answers of each export that come often enough to be asked for, as bits; and how often each came. */
+/* The answers that each export can give by the header, as bits; each of them has to be met, and none beside them. Of bytes that
+ * unpack, 1, 2 and 3 cannot be told: node count and operations are in order, and words that are not used are 0. */
 #define BITS(from, to) ((2u << (to)) - (1u << (from)))
-static const uint32_t wanted[EXPORTS] = {
-    [UNPACK] = 1u << 0 | 1u << 14 | BITS(20, 24),
-    [CHECK] = BITS(0, 8) | BITS(10, 11) | 1u << 14,
-    [UNPACK_CHECK] = 1u << 0 | 1u << 4 | 1u << 5 | 1u << 7 | 1u << 8 | 1u << 11 | BITS(20, 24),
-    [RUN] = BITS(0, 5) | 1u << 7 | 1u << 8 | 1u << 11 | BITS(13, 16),
-    [LOOKUP] = BITS(0, 5) | 1u << 7 | 1u << 8 | 1u << 11 | 1u << 17,
+static const uint32_t possible[EXPORTS] = {
+    [UNPACK] = BITS(0, 0) | BITS(14, 14) | BITS(20, 24),
+    [CHECK] = BITS(0, 12) | BITS(14, 14),
+    [UNPACK_CHECK] = BITS(0, 0) | BITS(4, 12) | BITS(20, 24),
+    [RUN] = BITS(0, 16),
+    [LOOKUP] = BITS(0, 12) | BITS(17, 17),
 };
 static unsigned long answers[EXPORTS][ANSWERS], operations[OPERATIONS], gaps_found;
 
@@ -84,22 +93,6 @@ static uint64_t said[5];
 static void given(int which) {
     under_way = which;
     kinds[which].calls++;
-}
-
-static void heard(uint64_t number, uint64_t place, uint64_t third, uint64_t fourth, uint64_t fifth) {
-    const uint64_t five[5] = {number, place, third, fourth, fifth};
-    memcpy(said, five, sizeof said);
-    if (number < ANSWERS) answers[kinds[under_way].export][number]++;
-}
-
-static lup_answer answered(lup_answer a) {
-    heard(a.number, a.place, a.count, 0, 0);
-    return a;
-}
-
-static lup_found found(lup_found f) {
-    heard(f.number, f.place, f.found, f.node, f.element);
-    return f;
 }
 
 static void name_call(void) {
@@ -116,6 +109,27 @@ static void expect(int holds, const char *what) {
     for (int k = 0; k < 5; k++) printf(" %llu", (unsigned long long)said[k]);
     printf("\n");
 }
+
+static void heard(uint64_t number, uint64_t place, uint64_t third, uint64_t fourth, uint64_t fifth) {
+    const uint64_t five[5] = {number, place, third, fourth, fifth};
+    int export = kinds[under_way].export;
+    memcpy(said, five, sizeof said);
+    expect(number < ANSWERS && possible[export] >> number & 1, "an answer that the header says of this call");
+    if (number < ANSWERS) answers[export][number]++;
+}
+
+static lup_answer answered(lup_answer a) {
+    heard(a.number, a.place, a.count, 0, 0);
+    return a;
+}
+
+static lup_found found(lup_found f) {
+    heard(f.number, f.place, f.found, f.node, f.element);
+    return f;
+}
+
+/* Whether the last answer has this number and this place. */
+static int is(lup_answer due) { return said[0] == due.number && said[1] == due.place; }
 
 /* ---- numbers by chance (splitmix64) */
 
@@ -212,7 +226,7 @@ static void param_words(int64_t *w) {
     int64_t limit = 1 + (int64_t)below(9);
     w[4] = (int64_t)below(4);
     w[5] = (int64_t)params;
-    w[6] = 1;
+    w[6] = one_in(12) ? 2 : 1;
     w[7] = w[4] < 2 ? one_in(2) : -limit;
     w[8] = w[4] == 0 ? 1 : limit;
     for (size_t k = 0, rank = below(5); k < rank; k++) w[9 + k] = one_in(20) ? 60 : 1 + (int64_t)below(4);
@@ -266,10 +280,10 @@ static size_t number(uint8_t *to, uint64_t n) {
     return k;
 }
 
-static size_t pack(uint8_t *to) {
-    size_t n = number(to, nodes);
-    for (size_t i = 0; i < nodes; i++) {
-        const int64_t *w = plan + NODE * i;
+static size_t pack(uint8_t *to, const int64_t *words, size_t count) {
+    size_t n = number(to, count);
+    for (size_t i = 0; i < count; i++) {
+        const int64_t *w = words + NODE * i;
         n += number(to + n, (uint64_t)w[0]);
         for (int k = 1; k < NODE; k++)
             if (used(w[0]) >> k & 1) n += number(to + n, w[k] < 0 ? (uint64_t)(-2 * w[k] - 1) : (uint64_t)(2 * w[k]));
@@ -288,53 +302,145 @@ static size_t spoil(uint8_t *bytes, size_t n) {
     return n;
 }
 
+/* The number at a place of packed bytes, and the place after it; or the refusal. */
+static uint64_t next_number(const uint8_t *bytes, size_t n, size_t *at, lup_answer *due) {
+    uint64_t value = 0;
+    for (size_t k = 0, first = *at; k < 5; k++) {
+        *due = (lup_answer){20, first, 0};
+        if (*at == n) return 0;
+        uint8_t byte = bytes[(*at)++];
+        value |= (uint64_t)(byte & 127) << 7 * k;
+        *due = (lup_answer){k && byte == 0 ? 21 : 0, k && byte == 0 ? first : 0, 0};
+        if (byte < 128) return value;
+        *due = (lup_answer){21, first, 0};
+    }
+    return 0;
+}
+
+/* What an unpacking has to answer, with so many words of room. */
+static lup_answer unpacking_due(const uint8_t *bytes, size_t n, size_t room) {
+    size_t at = 0;
+    lup_answer due;
+    uint64_t count = next_number(bytes, n, &at, &due);
+    if (due.number) return due;
+    if (count - 1 >= MOST_NODES) return (lup_answer){23, 0, 0};
+    if (room < NODE * count) return (lup_answer){14, 0, 0};
+    for (uint64_t k = 0; k < count; k++) {
+        size_t first = at;
+        uint64_t op = next_number(bytes, n, &at, &due);
+        if (due.number == 0 && op >= OPERATIONS) return (lup_answer){24, first, 0};
+        for (int w = 1; due.number == 0 && w < NODE; w++)
+            if (used((int64_t)op) >> w & 1) next_number(bytes, n, &at, &due);
+        if (due.number) return due;
+    }
+    return at < n ? (lup_answer){22, at, 0} : (lup_answer){0, 0, count};
+}
+
+/* ---- plans that break rules */
+
+/* An accepted plan with more nodes, of which the last breaks rules; or it has too many elements; or both. */
+static int64_t faulty[MOST_WORDS];
+static size_t faulty_nodes;
+
+static int64_t *add_node(const int64_t words[NODE]) { return memcpy(faulty + NODE * faulty_nodes++, words, NODE * sizeof *words); }
+
+/* Four nodes of 1048576 elements and two of one: together over 4194304. */
+static void add_large(void) {
+    int64_t first = (int64_t)faulty_nodes;
+    add_node((int64_t[NODE]){0, [4] = BOOL, 1});
+    add_node((int64_t[NODE]){RESHAPE, first, [9] = 1, 1});
+    for (int k = 0; k < 4; k++) add_node((int64_t[NODE]){EXPAND, first + 1, [9] = 1024, 1024});
+}
+
+static int breaks(uint32_t rules, unsigned rule) { return rules >> rule & 1; }
+
+/* A PARAM that breaks these rules. */
+static const uint32_t param_rules = BITS(2, 3) | BITS(5, 5) | BITS(7, 8) | BITS(11, 11);
+static void add_param(uint32_t rules) {
+    static const struct { int word; int64_t value; } sevens[] = {{5, 16}, {5, -1}, {6, 0}, {6, 256}, {7, 99999}, {9, -1}, {9, 1048577}, {12, 1}};
+    size_t seven = below(sizeof sevens / sizeof *sevens);
+    int64_t *w = add_node((int64_t[NODE]){PARAM, [4] = I16, (int64_t)params, 1, -9, 9, 2});
+    if (breaks(rules, 2)) w[0] = one_in(2) ? OPERATIONS : -1;
+    if (breaks(rules, 3)) w[one_in(2) ? 1 + below(3) : 13 + below(4)] = 1;
+    if (breaks(rules, 5)) w[4] = one_in(2) ? 4 : -1;
+    if (breaks(rules, 8)) w[9] = w[10] = 1048576;
+    if (breaks(rules, 11)) w[8] = 32768;
+    if (breaks(rules, 7)) w[sevens[seven].word] = sevens[seven].value;
+}
+
+/* An IDIV of two PARAMs that breaks these rules; the PARAMs break none. */
+static const uint32_t quotient_rules = BITS(2, 4) | BITS(6, 6) | BITS(8, 11);
+static void add_quotient(uint32_t rules) {
+    int64_t first = (int64_t)faulty_nodes, slot = (int64_t)params;
+    add_node((int64_t[NODE]){PARAM, [4] = I32, slot, 1, breaks(rules, 11) ? -2147483648 : -9, 0, 2});
+    add_node((int64_t[NODE]){PARAM, [4] = breaks(rules, 6) ? I16 : I32, slot + 1, breaks(rules, 9) ? 2 : 1, -1, breaks(rules, 10) ? 1 : -1,
+                             breaks(rules, 8) ? 3 : 2});
+    int64_t *w = add_node((int64_t[NODE]){IDIV, first, first + 1});
+    if (breaks(rules, 2)) w[0] = one_in(2) ? OPERATIONS : -1;
+    if (breaks(rules, 3)) w[3 + below(14)] = 1;
+    if (breaks(rules, 4)) w[1 + below(2)] = one_in(2) ? -1 : first + 2;
+}
+
 /* ---- the calls */
 
-/* Bytes with any room for their table; spoilt: they may not be those of the plan. */
-static void unpack_turn(const uint8_t *bytes, size_t n, int spoilt) {
+/* Bytes with any room for their table. */
+static void unpack_turn(const uint8_t *bytes, size_t n, int which) {
     size_t room = one_in(3) ? below(NODE * (nodes + 2)) : (size_t)NODE * MOST_NODES;
     lay(&packed, bytes, n);
     lay(&table, NULL, 8 * room);
-    given(spoilt ? SPOILT : room < NODE * nodes ? PACKED_NO_ROOM : PACKED);
-    lup_answer a = answered(lup_unpack(packed.at, n, (int64_t *)table.at, room));
+    given(which == PACKED && room < NODE * nodes ? PACKED_NO_ROOM : which);
+    lup_answer a = answered(lup_unpack(packed.at, n, (int64_t *)table.at, room)), due = unpacking_due(bytes, n, room);
     expect(stays(&packed, 0), "its bytes as they were");
-    if (a.number) expect(a.count == 0 && stays(&table, 0), "refused: no count, the table as it was");
-    else expect(a.count - 1 < MOST_NODES && a.place == 0 && stays(&table, 8 * NODE * a.count), "its answer, and the table past it");
+    expect(is(due) && a.count == due.count, "the answer that is due");
+    expect(stays(&table, 8 * NODE * a.count), "the table past what it writes");
     int same = a.number == 0 && a.count == nodes && !memcmp(table.at, plan, 8 * NODE * nodes);
     if (under_way == PACKED) expect(same, "the plan that was packed");
-    if (under_way == PACKED_NO_ROOM) expect(a.number == 14 && a.place == 0, "refused 14 at 0");
-    lup_answer c = {0, 0, 0};
-    if (a.number == 0) {
+    if (under_way == PACKED_NO_ROOM) expect(a.number == 14, "refused 14");
+    same = a.number == 0 && a.count == faulty_nodes && !memcmp(table.at, faulty, 8 * NODE * faulty_nodes);
+    if (under_way == FAULTY_PACKED && a.number != 14) expect(same, "the plan that was packed");
+}
+
+/* The same bytes by unpacking and checking, and by both in one call; the number that this call answers. */
+static uint64_t code_turn(const uint8_t *bytes, size_t n, int which) {
+    lup_answer due = unpacking_due(bytes, n, (size_t)NODE * MOST_NODES);
+    uint64_t wanted = due.number ? 65536 * due.number + due.place : due.count;
+    lay(&packed, bytes, n);
+    if (due.number == 0) {
+        lay(&table, NULL, 8 * NODE * due.count);
         lay(&derived, NULL, 8 * RECORD * MOST_NODES);
+        lup_unpack(packed.at, n, (int64_t *)table.at, NODE * due.count);
         given(UNPACKED);
-        c = answered(lup_check((int64_t *)table.at, NODE * a.count, (int64_t *)derived.at, RECORD * MOST_NODES));
-        expect(c.count == 0 && stays(&derived, c.number ? 0 : 8 * RECORD * a.count), "its answer, and the words past what it writes");
+        lup_answer c = answered(lup_check((int64_t *)table.at, NODE * due.count, (int64_t *)derived.at, RECORD * MOST_NODES));
+        expect(c.count == 0 && stays(&derived, c.number ? 0 : 8 * RECORD * due.count), "its answer, and the words past what it writes");
+        if (c.number) wanted = 65536 * c.number + c.place;
     }
-    given(spoilt ? CODE_SPOILT : CODE_PACKED);
+    given(which);
     uint64_t code = lup_unpack_check(packed.at, n);
     heard(code > MOST_NODES ? code >> 16 : 0, code > MOST_NODES ? code & 65535 : 0, code, 0, 0);
     expect(stays(&packed, 0), "its bytes as they were");
-    expect(code ? code <= MOST_NODES || code >> 16 < ANSWERS : 0, "a count or a refusal");
-    if (!spoilt) expect(code == nodes, "the number of nodes");
-    if (a.number == 0) expect(code == (c.number ? 65536 * c.number + c.place : a.count), "what unpack and check give");
-    else if (a.number != 14) expect(code == 65536 * a.number + a.place, "unpack's refusal");
+    expect(code == wanted, "what unpacking and checking give");
+    return code;
 }
 
-/* A check of words with any room; changed: they may not be those of the plan. */
-static void check_turn(const int64_t *words, size_t n, int changed) {
+/* A check of words with any room; its answer where there is room enough. */
+static lup_answer check_turn(const int64_t *words, size_t n, int which) {
     size_t room = one_in(3) ? below(RECORD * (n / NODE + 2)) : (size_t)RECORD * MOST_NODES;
     int no_nodes = n % NODE || n == 0 || n > NODE * MOST_NODES;
     lay(&table, words, 8 * n);
+    lay(&derived, NULL, 8 * RECORD * MOST_NODES);
+    given(no_nodes ? NO_NODES : which == PLAN && room < RECORD * nodes ? PLAN_NO_ROOM : which);
+    lup_answer full = answered(lup_check((int64_t *)table.at, n, (int64_t *)derived.at, RECORD * MOST_NODES));
     lay(&derived, NULL, 8 * room);
-    given(no_nodes ? NO_NODES : changed ? WORDS : room < RECORD * nodes ? PLAN_NO_ROOM : PLAN);
     lup_answer a = answered(lup_check((int64_t *)table.at, n, (int64_t *)derived.at, room));
     expect(stays(&table, 0), "its table as it was");
     expect(stays(&derived, a.number ? 0 : 8 * RECORD * (n / NODE)), "the words past what it writes");
     expect(a.count == 0 && (a.number || a.place == 0), "its answer");
+    expect(is(full.number || room >= RECORD * (n / NODE) ? full : (lup_answer){14, 0, 0}), "14 where nothing else is wrong");
     if (under_way == NO_NODES) expect(a.number == 1 && a.place == 0, "refused 1 at 0");
     int same = a.number == 0 && n == NODE * nodes && !memcmp(derived.at, records, 8 * RECORD * nodes);
     if (under_way == PLAN) expect(same, "accepted, with the same words as before");
-    if (under_way == PLAN_NO_ROOM) expect(a.number == 14 && a.place == 0, "refused 14 at 0");
+    if (under_way == PLAN_NO_ROOM) expect(a.number == 14, "refused 14");
+    return full;
 }
 
 /* Input for the PARAMs: mostly good. */
@@ -420,13 +526,13 @@ static lup_answer run(size_t n, size_t nvalues, size_t nflags, size_t room, size
 }
 
 static void run_turn(void) {
-    static int64_t v[MOST_CELLS];
-    static uint8_t f[MOST_CELLS];
+    static int64_t v[MOST_CELLS + 1];
+    static uint8_t f[MOST_CELLS + 1];
     size_t all = total(), n = fill_input(v, f, one_in(4)), nflags = n, room = all + below(3), flag_room = all + below(3);
     if (one_in(12)) room = below(all + 1);
     if (one_in(12)) flag_room = below(all + 1);
-    size_t nvalues = one_in(12) && n ? n - 1 : n;
-    if (one_in(12) && n) nflags = n - 1;
+    size_t nvalues = one_in(12) ? n + 1 - 2 * (n && one_in(2)) : n;
+    if (one_in(12)) nflags = n + 1 - 2 * (n && one_in(2));
     lay(&table, plan, 8 * NODE * nodes);
     lay(&values, v, 8 * nvalues);
     lay(&flags, f, nflags);
@@ -435,10 +541,10 @@ static void run_turn(void) {
     lup_answer want = fault(v, f);
     int which = want.number == 15 ? BAD_FLAG : want.number == 16 ? BAD_NUMBER : GOOD;
     if (room < all || flag_room < all) which = room < all ? NO_VALUE_ROOM : NO_FLAG_ROOM, want = (lup_answer){14, 0, 0};
-    if (nvalues < n || nflags < n) which = nvalues < n ? FEW_VALUES : FEW_FLAGS, want = (lup_answer){13, 0, 0};
+    if (nvalues != n || nflags != n) which = nvalues != n ? OTHER_VALUES : OTHER_FLAGS, want = (lup_answer){13, 0, 0};
     given(which);
     lup_answer a = run(NODE * nodes, nvalues, nflags, room, flag_room);
-    expect(a.number == want.number && a.place == want.place, "the number and the place that are due");
+    expect(is(want), "the number and the place that are due");
     expect(stays(&table, 0) && stays(&values, 0) && stays(&flags, 0), "its plan and its input as they were");
     if (a.number) {
         expect(a.count == 0 && stays(&out_values, 0) && stays(&out_flags, 0), "refused: no count, both buffers as they were");
@@ -450,22 +556,48 @@ static void run_turn(void) {
     for (int k = 0; k < 4; k++) lookup_turn(NODE * nodes);
 }
 
-/* A run and a lookup of words that no check has seen. */
-static void wild_turn(const int64_t *words, size_t n) {
+/* A run and a lookup of any words, with any input, room and place. What the check refuses they refuse in the same way. */
+static void wild_turn(const int64_t *words, size_t n, lup_answer check, int run_kind, int lookup_kind) {
     size_t room = below(64);
     lay(&table, words, 8 * n);
     lay(&values, NULL, 8 * below(9));
     lay(&flags, NULL, below(9));
     lay(&out_values, NULL, 8 * room);
     lay(&out_flags, NULL, room);
-    given(RUN_WORDS);
+    given(run_kind);
     lup_answer a = run(n, values.bytes / 8, flags.bytes, room, room);
+    expect(check.number ? is(check) : a.number == 0 || a.number > 12, "the refusal of the check, if it has one");
     if (a.number) expect(a.count == 0 && stays(&out_values, 0) && stays(&out_flags, 0), "refused: no count, both buffers as they were");
     expect(stays(&table, 0) && stays(&values, 0) && stays(&flags, 0), "what it reads as it was");
-    given(LOOKUP_WORDS);
+    given(lookup_kind);
     lup_found f = found(lup_lookup((int64_t *)table.at, n, (uint64_t)edge(), (uint64_t)edge()));
+    expect(check.number ? is(check) : f.number == 0 || f.number > 12, "the refusal of the check, if it has one");
     expect(f.number == 0 || (!f.found && !f.node && !f.element), "refused: no place");
     expect(stays(&table, 0), "its table as it was");
+}
+
+/* The plan with nodes that break rules, or that are too large, by every call: the least of the rules at the last node, 12 where
+ * none is broken, and nothing that comes after. */
+static void faulty_turn(void) {
+    static uint8_t bytes[MOST_BYTES];
+    if (nodes > MOST_NODES - 10 || params > 14) return;
+    int quotient = one_in(2);
+    uint32_t rules = (quotient ? quotient_rules : param_rules) & (uint32_t)(any() & any());
+    memcpy(faulty, plan, 8 * NODE * nodes);
+    faulty_nodes = nodes;
+    if (!rules || one_in(2)) add_large();
+    if (quotient) add_quotient(rules);
+    else add_param(rules);
+    lup_answer due = {12, 0, 0};
+    for (unsigned rule = 11; rule > 1; rule--)
+        if (breaks(rules, rule)) due = (lup_answer){rule, faulty_nodes - 1, 0};
+    check_turn(faulty, NODE * faulty_nodes, FAULTY);
+    expect(is(due), "the least rule that is broken, at the last node, else 12");
+    wild_turn(faulty, NODE * faulty_nodes, due, RUN_FAULTY, LOOKUP_FAULTY);
+    if (breaks(rules, 2) || breaks(rules, 3)) return;
+    size_t n = pack(bytes, faulty, faulty_nodes);
+    unpack_turn(bytes, n, FAULTY_PACKED);
+    expect(code_turn(bytes, n, CODE_FAULTY) == 65536 * due.number + due.place, "the least rule that is broken, at the last node, else 12");
 }
 
 static void one_turn(void) {
@@ -473,17 +605,20 @@ static void one_turn(void) {
     static int64_t words[MOST_WORDS];
     grow(one_in(30) ? MOST_NODES : 1 + below(12));
     if (nodes == 0) return;
-    size_t n = pack(bytes);
-    unpack_turn(bytes, n, 0);
-    unpack_turn(bytes, spoil(bytes, n), 1);
+    size_t n = pack(bytes, plan, nodes);
+    unpack_turn(bytes, n, PACKED);
+    expect(code_turn(bytes, n, CODE_PACKED) == nodes, "the number of nodes");
+    n = spoil(bytes, n);
+    unpack_turn(bytes, n, SPOILT);
+    code_turn(bytes, n, CODE_SPOILT);
     n = NODE * nodes;
-    check_turn(plan, n, 0);
+    check_turn(plan, n, PLAN);
     run_turn();
     memcpy(words, plan, 8 * n);
     for (size_t k = 1 + below(3); k > 0; k--) words[below(n)] = edge();
     if (one_in(8)) n = below(n + NODE);
-    check_turn(words, n, 1);
-    wild_turn(words, n);
+    wild_turn(words, n, check_turn(words, n, WORDS), RUN_WORDS, LOOKUP_WORDS);
+    faulty_turn();
 }
 
 static void stopped(int signal) {
@@ -513,7 +648,7 @@ static int finish(void) {
     }
     for (int k = 0; k < EXPORTS * ANSWERS; k++) {
         snprintf(what, sizeof what, "answers %d", k % ANSWERS);
-        if (wanted[k / ANSWERS] >> k % ANSWERS & 1) counted(exports[k / ANSWERS], what, answers[k / ANSWERS][k % ANSWERS], 0);
+        if (possible[k / ANSWERS] >> k % ANSWERS & 1) counted(exports[k / ANSWERS], what, answers[k / ANSWERS][k % ANSWERS], 0);
     }
     for (int k = 0; k < OPERATIONS; k++) {
         snprintf(what, sizeof what, "completes with a node of operation %d", k);
@@ -543,7 +678,7 @@ int main(int argc, char **argv) {
     signal(SIGILL, stopped);
     signal(SIGFPE, stopped);
     packed = make(MOST_BYTES, 0), table = make(8 * MOST_WORDS, 1), derived = make(8 * RECORD * (MOST_NODES + 2), 2);
-    values = make(8 * MOST_CELLS, 3), flags = make(MOST_CELLS, 4), out_values = make(8 * (MOST_CELLS + 8), 5), out_flags = make(MOST_CELLS + 8, 6);
+    values = make(8 * (MOST_CELLS + 1), 3), flags = make(MOST_CELLS + 1, 4), out_values = make(8 * (MOST_CELLS + 8), 5), out_flags = make(MOST_CELLS + 8, 6);
     for (turn = 0; turn < LEAST_TURNS || time(NULL) < end; turn++) {
         state = seed * 1000003u + turn;
         one_turn();

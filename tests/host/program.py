@@ -29,10 +29,10 @@ class Program:
     def run(self, *words, environment=SANITIZED, **more):
         """Exit status, standard output and standard error."""
         self.calls += 1
-        pipes = {'stdout': subprocess.PIPE, 'stderr': subprocess.PIPE, 'stdin': subprocess.DEVNULL, **more}
+        pipes = {'stdout': subprocess.PIPE, 'stderr': subprocess.PIPE, 'stdin': subprocess.DEVNULL, 'timeout': 60, **more}
         if 'input' in more:
             del pipes['stdin']
-        done = subprocess.run([self.path, *words], cwd=self.folder, env=environment, timeout=60, **pipes)
+        done = subprocess.run([self.path, *words], cwd=self.folder, env=environment, **pipes)
         return done.returncode, (done.stdout or b'').decode(errors='surrogateescape'), (done.stderr or b'').decode(errors='replace')
 
     def files(self):

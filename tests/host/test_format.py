@@ -326,13 +326,21 @@ def answered(call, faults):
     return model.unpack(data, room).number if call == 'lup_unpack' else model.unpack_check(data) // 65536
 
 
+def fuzzed_answers():
+    """The answers that tests/fuzz/fuzz.c allows of each call."""
+    rows = re.findall(r'^    \[(\w+)\] = (BITS.*),$', read('tests', 'fuzz', 'fuzz.c'), re.M)
+    ends = {name: re.findall(r'BITS\((\d+), (\d+)\)', bits) for name, bits in rows}
+    return {'lup_' + name.lower(): {n for first, last in pairs for n in range(int(first), int(last) + 1)} for name, pairs in ends.items()}
+
+
 def test_order(tally, page):
     """Of any two steps of a call the earlier one decides where both are due."""
-    every = set()
+    every, fuzzed = set(), fuzzed_answers()
     for call, cell in page.table('call', 'order'):
         steps = [numbers_of(step) for step in re.sub(r' \([^)]*\)', '', cell).split('; ')]
         faults = [next(fault for fault in (1, 11, 12, 13, 14, 15, 17, 22, 23, 24) if fault in step) for step in steps]
         every |= set(sum(steps, ()))
+        tally.same((call, 'what fuzz.c allows'), fuzzed.get(call), {0, *sum(steps, ())})
         for fault in faults:
             tally.same((call, fault), answered(call, {fault}), fault)
         for first, second in combinations(faults, 2):

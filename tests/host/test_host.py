@@ -631,11 +631,10 @@ def test_one_svg(tally, lup, extents, cells, words=(), bounds=None, scale=None):
     wanted |= {'outside': outside_text(cells, scale)} if outside_text(cells, scale) else {}
     tally.same(('legend', extents), texts, wanted)
     tally.same(('low stands left of high', extents), not known or place_of(legend, 'low')[0] < place_of(legend, 'high')[0], True)
-    stops = [(stop.get('offset'), stop.get('stop-color')) for stop in root.findall(f'{SVG}defs/{SVG}linearGradient/{SVG}stop')]
+    stops = [(stop.get('offset'), stop.get('stop-color')) for stop in root.findall(f'{SVG}defs/{SVG}linearGradient[@id="colours"]/{SVG}stop')]
     tally.same(('the colours of the legend', extents), stops, [('0', colour(scale, scale[0])), ('1', colour(scale, scale[1]))])
     samples = ['url(#colours)'] * bool(known) + ['url(#gap)']
     tally.same(('samples', extents), [rect.get('fill') for rect in legend.findall(f'{SVG}rect')], samples)
-    stops = [(stop.get('offset'), stop.get('stop-color')) for stop in root.findall(f'{SVG}defs/{SVG}linearGradient[@id="colours"]/{SVG}stop')]
     tally.same(('hatching', extents), len(root.findall(f'{SVG}defs/{SVG}pattern[@id="gap"]/{SVG}path')), 1)
     titles = [item.text for item in root.findall(f'{SVG}text')]
     tally.same(('titles', extents), len(titles), 1 + (prod(extents[:-2]) if len(extents) > 2 else 0))
@@ -1348,7 +1347,8 @@ def test_broken_input(tally, lup):
     before = lup.files()
     for call, data, words in ((('show', '-'), field_bytes((2,), [7, 9]), 'it'), (('check', '-'), pack(PADDED), 'the plan'),
                               (('run', 'p.plan', '-', '-o', 'x.out', '--missing', '9', '--damaged-as-gaps'), field_bytes((2,), [7, 9]), 'it'),
-                              (('show', '-'), field_bytes((2,), [7, 9])[:-1], 'it'), (('show', '-'), b'', 'it')):
+                              (('show', '-'), field_bytes((2,), [7, 9])[:-1], 'it'), (('show', '-'), b'', 'it'),
+                              (('show', '-'), field_bytes((2,), [7, 9], (-9, 9)), 'it'), (('show', '-'), field_bytes((2,), [7, 9], (-9, 9))[:-1], 'it')):
         near = broken_input(data)
         tally.same(('an error at its end', call, len(data)), lup.run(*call, stdin=near), (2, '', f'lup: -: {words} cannot be read: Input/output error\n'))
         os.close(near)

@@ -14,7 +14,6 @@ import os
 import pickle
 import py_compile
 import re
-import subprocess
 import sys
 import tempfile
 from array import array
@@ -579,41 +578,6 @@ def test_hints(tally, lups):
         tally.same('compiled', py_compile.compile(lups[0].__file__, made, doraise=True), made)
 
 
-def readme_session():
-    """README's session in Python: the commands before it, and its lines."""
-    with open(os.path.join(ROOT, 'README.md'), encoding='utf-8') as file:
-        part = file.read().split('\n## Using it from Python\n')[1].split('\n## ')[0]
-    lines = [line[4:] for line in part.split('\n') if line.startswith('    ')]
-    commands = [line[2:] for line in lines if line.startswith('$ ')]
-    return commands, '\n'.join(line for line in lines if not line.startswith('$ ')) + '\n'
-
-
-SESSION = """
-import doctest, sys
-text = sys.stdin.read()
-test = doctest.DocTestParser().get_doctest(text, {}, 'README', 'README.md', 0)
-print(doctest.DocTestRunner().run(test))
-"""
-
-
-def test_readme(tally):
-    """README's session, typed as it is printed, in a folder with what a checkout has after make."""
-    commands, text = readme_session()
-    count = text.count('>>> ')
-    tally.holds('the session', len(commands) == 2 and count >= 6 and commands[-1].endswith('/usr/bin/python3'))
-    with tempfile.TemporaryDirectory() as folder:
-        for part in ('host', 'demo', 'python', 'build'):
-            os.symlink(os.path.join(ROOT, part), os.path.join(folder, part))
-        clean = {key: value for key, value in os.environ.items() if not key.startswith(('PYTHON', 'LUPETZARIN'))}
-        clean['PYTHONDONTWRITEBYTECODE'] = '1'
-        how = {'cwd': folder, 'env': clean, 'capture_output': True, 'text': True, 'check': False}
-        for command in commands[:-1]:
-            done = subprocess.run(['sh', '-c', command], **how)
-            tally.same(command, (done.returncode, done.stdout, done.stderr), (0, '', ''))
-        done = subprocess.run(['sh', '-c', commands[-1] + ' -c "$0"', SESSION], input=text, **how)
-    tally.same('as printed', (done.stdout, done.stderr), (f'TestResults(failed=0, attempted={count})\n', ''))
-
-
 def main():
     count = int(sys.argv[1]) if len(sys.argv) > 1 else 400
     rng, tally, lups = Random(int(sys.argv[2]) if len(sys.argv) > 2 else 5), Cases(), modules()
@@ -627,9 +591,8 @@ def main():
     for test in test_masks, test_wrong_masks, test_fields, test_types:
         with tally.case(test.__name__):
             test(tally, lups[0])
-    for test in test_pool, test_readme:
-        with tally.case(test.__name__):
-            test(tally)
+    with tally.case('test_pool'):
+        test_pool(tally)
     tally.finish()
 
 
