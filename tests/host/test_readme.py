@@ -180,6 +180,33 @@ def test_assembler(tally, page, shell):
     tally.same('there and back', shell.get('new.plan'), shell.get('small.plan'))
 
 
+# ------------------------------------------------------------- installing
+
+# Without sudo; without an index of packages, and into a folder of its own.
+SUDO = '#!/bin/sh\nexec "$@"\n'
+PIP = '#!/bin/sh\nexec /usr/bin/python3 -m pip "$@" --quiet --no-build-isolation --no-index --root-user-action ignore --target site\n'
+
+
+def test_installing(tally, page, shell):
+    """The lines on installing, with a prefix of the test's own: a C program by the pkg-config file, and the module with the library beside it."""
+    lines = [line.split('  ')[0] for line in page.take('make    ').splitlines()]
+    for name, text in (('bin/sudo', SUDO), ('bin/pip', PIP)):
+        os.chmod(shell.at(shell.put(name, text.encode())), 0o755)
+    shell.put('program.c', b'#include <lupetzarin.h>\nint main(void) { return lup_version() != LUP_VERSION; }\n')
+    prefix = shell.at('prefix')
+    shell.environment.update(MAKEFLAGS=f'PREFIX={prefix}', PKG_CONFIG_PATH=f'{prefix}/lib/pkgconfig', LD_LIBRARY_PATH=f'{prefix}/lib')
+    for line in lines:
+        status, _, errors = shell.type(line, timeout=600)
+        tally.same(line, (status, errors), (0, ''))
+    tally.same('the program', shell.type('./a.out'), (0, '', ''))
+    tally.same('what is installed', sorted(os.listdir(f'{prefix}/bin')), ['lup', 'lup-list', 'lupasm'])
+    tally.same('the module', sorted(name for name in os.listdir(shell.at('site')) if 'info' not in name and name[0] != '_'), ['liblupetzarin.so', 'lupetzarin.py'])
+    tally.same('taken away', shell.type('make uninstall')[0], 0)
+    tally.same('nothing is left', os.listdir(f'{prefix}/bin'), [])
+    for name in ('MAKEFLAGS', 'PKG_CONFIG_PATH', 'LD_LIBRARY_PATH'):
+        del shell.environment[name]
+
+
 # ------------------------------------------------------------------ from C
 
 FRAME = '''#include <stdio.h>
@@ -220,9 +247,10 @@ def test_calls(tally, page, shell):
     header = dict(re.findall(r'^\w+ (lup_\w+)\((.*?)\);', read('include', 'lupetzarin.h'), re.M | re.S))
     tally.same('every call', sorted(name for name, _ in rows), sorted(header))
     for name, names in rows:
-        lengths = {'n' + word for word in names.split(', ')} | {'nwords', 'nderived'}
-        wanted = [word for word in re.findall(r'(\w+)(?=,|$)', header[name]) if word not in lengths]
-        tally.same(name, names.split(', '), wanted)
+        given = re.findall(r'\w+', names)
+        beside = {'n' + word for word in given} | {'nwords', 'nderived', 'void'}
+        wanted = [word for word in re.findall(r'(\w+)(?=,|$)', header[name]) if word not in beside]
+        tally.same(name, given, wanted)
 
 
 def test_run(tally, page, shell):
@@ -263,7 +291,7 @@ def main():
     tally, page = Cases(), Readme(read('README.md'))
     with tempfile.TemporaryDirectory() as folder:
         shell = Checkout(folder)
-        for test in (test_commands, test_usage, test_refusal, test_session, test_assembler, test_calls, test_run, test_python):
+        for test in (test_commands, test_usage, test_refusal, test_session, test_assembler, test_installing, test_calls, test_run, test_python):
             test(tally, page, shell)
     tally.same('every block is tested', page.blocks, [])
     tally.finish()

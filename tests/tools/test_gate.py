@@ -187,8 +187,7 @@ def test_run(tally):
     for path in sorted(paths - {'tests/tools/counting.py'}):
         tally.holds((path, 'is run'), f' python3 {path}' in text or f' /usr/bin/python3 {path}\n' in text)
     for path in ('tests/python/test_python.py', 'tests/python/test_cluster.py', 'tests/host/test_install.py'):
-        tally.holds((path, 'by the system\'s own Python'), f' /usr/bin/python3 {path}
-' in text)
+        tally.holds((path, 'by the system\'s own Python'), f' /usr/bin/python3 {path}\n' in text)
     with open(os.path.join(ROOT, 'Makefile'), encoding='utf-8') as file:
         asked = re.search(r'\ntest:\n\t@tools/setup (.*)\n\t@tests/run\n', file.read())
     for package in ('libpng-dev', 'python3-numpy', 'python3-distributed', 'python3-pip', 'python3-setuptools', 'python3-venv', 'python3-wheel', 'g++', 'groff-base', 'man-db', 'pkg-config'):
