@@ -352,10 +352,12 @@ static void add_large(void) {
     for (int k = 0; k < 4; k++) add_node((int64_t[NODE]){EXPAND, first + 1, [9] = 1024, 1024});
 }
 
+/* Rules are bits by their numbers. */
 static int breaks(uint32_t rules, unsigned rule) { return rules >> rule & 1; }
 
-/* A PARAM that breaks these rules. */
 static const uint32_t param_rules = BITS(2, 3) | BITS(5, 5) | BITS(7, 8) | BITS(11, 11);
+
+/* A PARAM that breaks these rules; 7 by its slot, its device, low above high, an extent, or a word after its shape. */
 static void add_param(uint32_t rules) {
     static const struct { int word; int64_t value; } sevens[] = {{5, 16}, {5, -1}, {6, 0}, {6, 256}, {7, 99999}, {9, -1}, {9, 1048577}, {12, 1}};
     size_t seven = below(sizeof sevens / sizeof *sevens);
@@ -368,8 +370,9 @@ static void add_param(uint32_t rules) {
     if (breaks(rules, 7)) w[sevens[seven].word] = sevens[seven].value;
 }
 
-/* An IDIV of two PARAMs that breaks these rules; the PARAMs break none. */
 static const uint32_t quotient_rules = BITS(2, 4) | BITS(6, 6) | BITS(8, 11);
+
+/* An IDIV of two PARAMs that breaks these rules; the PARAMs break none. */
 static void add_quotient(uint32_t rules) {
     int64_t first = (int64_t)faulty_nodes, slot = (int64_t)params;
     add_node((int64_t[NODE]){PARAM, [4] = I32, slot, 1, breaks(rules, 11) ? -2147483648 : -9, 0, 2});
