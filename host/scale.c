@@ -7,14 +7,8 @@
 /* A whole number of 64 bits with its sign, in decimal digits. */
 static int read_end(const arguments *a, const char *what, const char *word, int64_t *number) {
     int negative = word[0] == '-';
-    const char *digits = negative ? word + 1 : word;
-    uint64_t most = (uint64_t)INT64_MAX + (uint64_t)negative, sum = 0;
-    int fits = digits[0] != '\0';
-    for (const char *c = digits; *c != '\0' && fits; c++) {
-        uint64_t digit = (uint64_t)(*c - '0');
-        fits = *c >= '0' && *c <= '9' && sum <= (most - digit) / 10;
-        sum = fits ? 10 * sum + digit : 0;
-    }
+    uint64_t sum;
+    int fits = read_digits(negative ? word + 1 : word, (uint64_t)INT64_MAX + (uint64_t)negative, &sum);
     /* -2^63 has no positive counterpart: it is one less than the negative of 2^63 - 1. */
     *number = !negative ? (int64_t)sum : sum > 0 ? -(int64_t)(sum - 1) - 1 : 0;
     if (fits) return DONE;

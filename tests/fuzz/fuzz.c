@@ -1,4 +1,4 @@
-/* Calls every export on random and mutated inputs. Each buffer of a call lies against a page that cannot be touched, before
+/* Calls every export that takes something, on random and mutated inputs. Each buffer of a call lies against a page that cannot be touched, before
  * it or after it in turn, so that a read or a write past either end stops the program, which then names the seed, the turn
  * and the call. A refusal must leave every buffer as it was, an accepted call every place that it does not write; what it
  * writes must keep what the header says.
