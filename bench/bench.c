@@ -21,6 +21,7 @@ typedef struct {
 static packed_plan plans[PLANS];
 static int64_t lup_table[NODES * WORDS], plain_table[NODES * WORDS];
 static int64_t tables[PLANS][NODES * WORDS], lup_derived[NODES * 8], plain_derived[NODES * 8];
+static uint8_t lup_bytes[MOST_BYTES], plain_bytes[MOST_BYTES];
 static volatile uint64_t sink;
 
 /* The words beside the operation that each operation uses, by its number. */
@@ -129,6 +130,59 @@ static int unpack_row(const char *what, void (*body)(packed_plan *)) {
     return 1;
 }
 
+/* ---- packing ---- */
+
+static double lup_pack_round(void) {
+    double start = now();
+    for (unsigned i = 0; i < PLANS; i++) sink += lup_pack(tables[i], NODES * WORDS, lup_bytes, MOST_BYTES).count;
+    return now() - start;
+}
+
+static double plain_pack_round(void) {
+    double start = now();
+    for (unsigned i = 0; i < PLANS; i++) sink += plain_pack(tables[i], NODES * WORDS, plain_bytes, MOST_BYTES).count;
+    return now() - start;
+}
+
+/* Whether both accept every table, write the bytes that it was unpacked from, and leave the bytes past them. */
+static int pack_agrees(void) {
+    for (unsigned i = 0; i < PLANS; i++) {
+        memset(lup_bytes, 1, sizeof lup_bytes);
+        memset(plain_bytes, 1, sizeof plain_bytes);
+        lup_answer a = lup_pack(tables[i], NODES * WORDS, lup_bytes, MOST_BYTES);
+        plain_answer b = plain_pack(tables[i], NODES * WORDS, plain_bytes, MOST_BYTES);
+        if (a.number != 0 || a.place != 0 || a.count != plans[i].length) return 0;
+        if (a.number != b.number || a.place != b.place || a.count != b.count) return 0;
+        if (memcmp(lup_bytes, plans[i].bytes, plans[i].length) != 0 || memcmp(lup_bytes, plain_bytes, sizeof lup_bytes) != 0) return 0;
+    }
+    return 1;
+}
+
+/* Whether both refuse the first table alike where a word of any node is another. */
+static int pack_refusals_agree(void) {
+    static const int64_t words[] = {-1, 1, 21, -17179869185, 17179869184, INT64_MIN, INT64_MAX};
+    for (unsigned k = 0; k < NODES * WORDS; k++) {
+        int64_t kept = tables[0][k];
+        tables[0][k] = words[k % 7];
+        lup_answer a = lup_pack(tables[0], NODES * WORDS, lup_bytes, MOST_BYTES);
+        plain_answer b = plain_pack(tables[0], NODES * WORDS, plain_bytes, MOST_BYTES);
+        tables[0][k] = kept;
+        if (a.number != b.number || a.place != b.place || a.count != b.count) return 0;
+    }
+    return 1;
+}
+
+static int pack_row(const char *what, void (*body)(packed_plan *)) {
+    size_t length = pack_plans(body);
+    for (unsigned i = 0; i < PLANS; i++) plain_unpack(plans[i].bytes, plans[i].length, tables[i], NODES * WORDS);
+    if (!pack_agrees() || !pack_refusals_agree()) {
+        printf("bench: %s: library and plain C differ\n", what);
+        return 0;
+    }
+    row(what, length, lup_pack_round, plain_pack_round);
+    return 1;
+}
+
 /* ---- the check ---- */
 
 /* Words 1 to 16 of a valid node of each operation but PARAM, after the five PARAMs of `params`. */
@@ -197,6 +251,10 @@ int main(void) {
     agree &= unpack_row("unpack, ADD, words of one byte", add_plan);
     agree &= unpack_row("unpack, PAD, words of one byte", short_pad_plan);
     agree &= unpack_row("unpack, PAD, words of five bytes", long_pad_plan);
+    agree &= pack_row("pack, any operations and words", mixed_plan);
+    agree &= pack_row("pack, ADD, words of one byte", add_plan);
+    agree &= pack_row("pack, PAD, words of one byte", short_pad_plan);
+    agree &= pack_row("pack, PAD, words of five bytes", long_pad_plan);
     agree &= check_row("check, any operations", any_tables);
     agree &= check_row("check, ADD, broadcast", add_tables);
     return !agree;

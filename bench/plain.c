@@ -59,6 +59,39 @@ plain_answer plain_unpack(const uint8_t *s, size_t n, int64_t *table, size_t roo
     return (plain_answer){0, 0, count};
 }
 
+/* ---- packing ---- */
+
+static inline size_t write_number(uint8_t *s, size_t at, uint64_t v) {
+    for (; v >= 128; v >>= 7) s[at++] = (uint8_t)(v | 128);
+    s[at++] = (uint8_t)v;
+    return at;
+}
+
+plain_answer plain_pack(const int64_t *t, size_t words, uint8_t *bytes, size_t room) {
+    size_t count = words / WORDS;
+    if (words % WORDS || count < 1 || count > NODES) return refuse(1, 0);
+    uint8_t local[2 + NODES * 46];
+    size_t at = write_number(local, 0, count);
+    for (size_t i = 0; i < count; i++) {
+        const int64_t *w = t + i * WORDS;
+        if (w[0] < 0 || w[0] > 20) return refuse(2, i);
+        uint32_t m = used[w[0]];
+        int64_t junk = 0;
+        for (unsigned k = 1; k < WORDS; k++) junk |= (m >> k & 1) ? 0 : w[k];
+        if (junk) return refuse(3, i);
+        local[at++] = (uint8_t)w[0];
+        for (; m; m &= m - 1) {
+            int64_t word = w[__builtin_ctz(m)];
+            uint64_t v = ((uint64_t)word << 1) ^ (word < 0 ? UINT64_MAX : 0);
+            if (v >> 35) return refuse(25, i);
+            at = write_number(local, at, v);
+        }
+    }
+    if (room < at) return refuse(14, 0);
+    memcpy(bytes, local, at);
+    return (plain_answer){0, 0, at};
+}
+
 /* ---- the check ---- */
 
 typedef struct {

@@ -10,6 +10,7 @@ typedef struct {
 } plain_answer;
 
 plain_answer plain_unpack(const uint8_t *bytes, size_t nbytes, int64_t *table, size_t nwords);
+plain_answer plain_pack(const int64_t *table, size_t nwords, uint8_t *bytes, size_t nbytes);
 plain_answer plain_check(const int64_t *table, size_t nwords, int64_t *derived, size_t nderived);
 
 #endif

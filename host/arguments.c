@@ -1,6 +1,7 @@
 #include "arguments.h"
 
 #include "message.h"
+#include "text.h"
 
 #include <getopt.h>
 #include <inttypes.h>
@@ -92,18 +93,7 @@ int expect_words(const arguments *a, size_t least, size_t most, const char *want
     return complain("%s: wanted %s, and %zu given; see lup %s --help", a->command, wanted, a->count, a->command);
 }
 
-int read_digits(const char *word, uint64_t most, uint64_t *number) {
-    int fits = word[0] != '\0';
-    *number = 0;
-    for (const char *c = word; *c != '\0' && fits; c++) {
-        uint64_t digit = (uint64_t)(*c - '0');
-        fits = *c >= '0' && *c <= '9' && *number <= (most - digit) / 10;
-        *number = fits ? 10 * *number + digit : 0;
-    }
-    return fits;
-}
-
 int read_number(const arguments *a, const char *what, const char *word, uint64_t last, uint64_t *number) {
-    if (read_digits(word, UINT64_MAX, number)) return DONE;
+    if (read_digits(word, strlen(word), UINT64_MAX, number)) return DONE;
     return complain("%s: %s '%s' is no whole number 0..%" PRIu64, a->command, what, word, last);
 }

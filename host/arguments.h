@@ -28,9 +28,6 @@ int take_options(arguments *a, option *options, size_t noptions);
 /* DONE where so many words are left, 'wanted' saying which; else MISUSED with a message. */
 int expect_words(const arguments *a, size_t least, size_t most, const char *wanted);
 
-/* Reads a whole number in decimal digits, at most 'most', which is 9 or more; whether the word is one. */
-int read_digits(const char *word, uint64_t most, uint64_t *number);
-
 /* Reads a whole number of 64 bits in decimal digits. DONE, or MISUSED with a message that begins with 'what' and says 0..last; a number over last
    that has 64 bits is read. */
 int read_number(const arguments *a, const char *what, const char *word, uint64_t last, uint64_t *number);

@@ -10,6 +10,8 @@ int check_command(arguments a);
 int run_command(arguments a);
 int lookup_command(arguments a);
 int show_command(arguments a);
+int pack_command(arguments a);
+int unpack_command(arguments a);
 
 /* Writes a plan as a Graphviz graph to standard output. */
 void write_dot(const plan *p);

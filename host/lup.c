@@ -16,7 +16,8 @@ static const char WORDS[] = "Options may stand anywhere among the words (-oFILE 
                             "are none. '-' is standard input in place of one file that is read, and standard output in place of one that is written:\n"
                             "what was written is told on standard error then. './-' is a file of that name.\n";
 static const char STATUSES[] = "Exit status: 0 done; 1 refused: by the library, with number, place and rule on standard error, or by run for too many missing\n"
-                               "inputs; 2 misuse, or a file that cannot be read or written; 3 done, with inputs missing or damaged (run).\n";
+                               "inputs; 2 misuse, a text that is no table (pack), or a file that cannot be read or written;\n"
+                               "3 done, with inputs missing or damaged (run).\n";
 
 static const command COMMANDS[] = {
     {"list",
@@ -60,6 +61,20 @@ static const command COMMANDS[] = {
      "--title TEXT   over the picture, instead of the file's name and the shape\n"
      "--unit TEXT    what the numbers are, beside the scale\n",
      show_command},
+    {"pack",
+     "lup pack TABLE -o PLAN\n\n"
+     "Packs a table into a plan file. TABLE is a text: a line a node, its 17 words as whole numbers with blanks between; '#' begins a comment,\n"
+     "and empty lines are passed over. A line with more or fewer words, or with a word that is no whole number of 64 bits, is named, with status 2.\n"
+     "What the library refuses is told with status 1: 1 for no node or over 256 (257 are read and no more), then, the nodes in turn, 2 for an\n"
+     "operation not 0..20, 3 for an unused word that is not 0 and 25 for a used word not in -17179869184..17179869183. Nothing else is asked of the\n"
+     "plan: lup check does that.\n"
+     "-o PLAN   the file to write\n",
+     pack_command},
+    {"unpack",
+     "lup unpack PLAN [-o TABLE]\n\n"
+     "Writes the table of a plan file as a text that lup pack takes: a line a node, its 17 words. A plan that lup check refuses is unpacked too.\n"
+     "-o TABLE   the file to write; without it the text goes to standard output\n",
+     unpack_command},
 };
 #define COMMAND_COUNT (sizeof COMMANDS / sizeof COMMANDS[0])
 

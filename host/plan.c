@@ -39,6 +39,7 @@ static const char *const RULES[] = {
     [22] = "bytes left over",
     [23] = "node count not 1..256",
     [24] = "operation not 0..20",
+    [25] = "a used word not in -17179869184..17179869183",
 };
 /* What rule 7 asks of an operation's row and number. */
 static const char *const ROWS[] = {
@@ -72,50 +73,74 @@ const char *rule_words(uint64_t number) {
     return words != NULL ? words : "a rule that this program does not know";
 }
 
-int refuse(const plan *p, uint64_t number, uint64_t place) {
-    if (number >= LUP_REFUSED_OPERATION && number <= LUP_REFUSED_BOUNDS && place < LUP_MOST_NODES) {
-        int64_t operation = word_of(p, (size_t)place, LUP_WORD_OPERATION);
-        const char *row = number == LUP_REFUSED_ROW_OR_NUMBER ? named(ROWS, NAMED(ROWS), (uint64_t)operation) : NULL;
-        complain("%s: refused %" PRIu64 " at node %" PRIu64 " (%s): %s%s", p->name, number, place, operation_name(operation),
-                 rule_words(number), row != NULL ? row : "");
+/* Whether the place of a refusal is a node. */
+static int is_at_node(uint64_t number) {
+    return (number >= LUP_REFUSED_OPERATION && number <= LUP_REFUSED_BOUNDS) || number == LUP_REFUSED_WORD_RANGE;
+}
+
+int refuse_table(const char *name, const int64_t *table, uint64_t number, uint64_t place, const char *more) {
+    if (is_at_node(number) && place < LUP_MOST_NODES) {
+        complain("%s: refused %" PRIu64 " at node %" PRIu64 " (%s): %s%s", name, number, place,
+                 operation_name(table[(size_t)place * LUP_NODE_WORDS + LUP_WORD_OPERATION]), rule_words(number), more);
     } else if (number >= LUP_REFUSED_PACKED_END) {
-        complain("%s: refused %" PRIu64 " at byte %" PRIu64 ": %s", p->name, number, place, rule_words(number));
+        complain("%s: refused %" PRIu64 " at byte %" PRIu64 ": %s", name, number, place, rule_words(number));
     } else {
-        complain("%s: refused %" PRIu64 ": %s", p->name, number, rule_words(number));
+        complain("%s: refused %" PRIu64 ": %s%s", name, number, rule_words(number), more);
     }
     return REFUSED;
 }
 
-static int read_bytes(const char *name, uint8_t bytes[MOST_BYTES], size_t *count) {
+int refuse(const plan *p, uint64_t number, uint64_t place) {
+    int in_row = number == LUP_REFUSED_ROW_OR_NUMBER && place < LUP_MOST_NODES;
+    const char *row = in_row ? named(ROWS, NAMED(ROWS), (uint64_t)word_of(p, (size_t)place, LUP_WORD_OPERATION)) : NULL;
+    return refuse_table(p->name, p->table, number, place, row != NULL ? row : "");
+}
+
+/* The bytes of a plan file, with a 0 after them. */
+typedef struct {
+    uint8_t bytes[MOST_BYTES + 1];
+    size_t count;
+} packed_plan;
+
+/* The file's bytes, and a plan of that name with nothing in it yet. */
+static int read_packed(const char *name, packed_plan *f, plan *p) {
+    memset(f, 0, sizeof *f);
+    memset(p, 0, sizeof *p);
+    p->name = name;
     FILE *file = open_source(name);
     if (file == NULL) return complain("%s: the plan cannot be opened: %s", name, strerror(errno));
-    *count = fread(bytes, 1, MOST_BYTES, file);
+    f->count = fread(f->bytes, 1, MOST_BYTES, file);
     int failed = ferror(file), why = errno;
     close_source(file);
     return failed ? complain("%s: the plan cannot be read: %s", name, strerror(why)) : DONE;
 }
 
 /* What the library refuses may be a text that was not assembled. */
-static int refuse_bytes(const plan *p, const uint8_t *bytes, size_t count) {
-    int status = refuse(p, p->refused.number, p->refused.place);
-    if (looks_like_plan_text(bytes, count))
+static int refuse_packed(plan *p, const packed_plan *f, uint64_t number, uint64_t place) {
+    p->refused = (lup_answer){.number = number, .place = place};
+    int status = refuse(p, number, place);
+    if (looks_like_plan_text(f->bytes, f->count))
         complain("%s: this looks like the text of a plan; assemble it first: lupasm %s -o PLAN (not installed: python3 host/lupasm.py)", p->name,
                  p->name);
     return status;
 }
 
+static lup_answer unpack_into(plan *p, const packed_plan *f) { return lup_unpack(f->bytes, f->count, p->table, LUP_MOST_NODES * LUP_NODE_WORDS); }
+
+int unpack_plan(const char *name, plan *p) {
+    packed_plan f;
+    if (read_packed(name, &f, p) != DONE) return MISUSED;
+    lup_answer unpacked = unpack_into(p, &f);
+    p->nodes = (size_t)unpacked.count;
+    return unpacked.number == LUP_ACCEPTED ? DONE : refuse_packed(p, &f, unpacked.number, unpacked.place);
+}
+
 int load_plan(const char *name, plan *p) {
-    uint8_t bytes[MOST_BYTES + 1] = {0};
-    size_t count = 0;
-    memset(p, 0, sizeof *p);
-    p->name = name;
-    if (read_bytes(name, bytes, &count) != DONE) return MISUSED;
-    uint64_t code = lup_unpack_check(bytes, count);
-    lup_answer unpacked = lup_unpack(bytes, count, p->table, LUP_MOST_NODES * LUP_NODE_WORDS);
-    if (code > LUP_MOST_NODES) {
-        p->refused = (lup_answer){.number = code / LUP_REFUSAL_CODE, .place = code % LUP_REFUSAL_CODE};
-        return refuse_bytes(p, bytes, count);
-    }
+    packed_plan f;
+    if (read_packed(name, &f, p) != DONE) return MISUSED;
+    uint64_t code = lup_unpack_check(f.bytes, f.count);
+    lup_answer unpacked = unpack_into(p, &f);
+    if (code > LUP_MOST_NODES) return refuse_packed(p, &f, code / LUP_REFUSAL_CODE, code % LUP_REFUSAL_CODE);
     p->nodes = (size_t)code;
     lup_answer checked = lup_check(p->table, p->nodes * LUP_NODE_WORDS, p->derived, LUP_MOST_NODES * LUP_DERIVED_WORDS);
     int agree = unpacked.number == LUP_ACCEPTED && unpacked.count == code && checked.number == LUP_ACCEPTED;

@@ -1,17 +1,13 @@
 #include "scale.h"
 
 #include "message.h"
+#include "text.h"
 
 #include <inttypes.h>
+#include <string.h>
 
-/* A whole number of 64 bits with its sign, in decimal digits. */
 static int read_end(const arguments *a, const char *what, const char *word, int64_t *number) {
-    int negative = word[0] == '-';
-    uint64_t sum;
-    int fits = read_digits(negative ? word + 1 : word, (uint64_t)INT64_MAX + (uint64_t)negative, &sum);
-    /* -2^63 has no positive counterpart: it is one less than the negative of 2^63 - 1. */
-    *number = !negative ? (int64_t)sum : sum > 0 ? -(int64_t)(sum - 1) - 1 : 0;
-    if (fits) return DONE;
+    if (read_whole(word, strlen(word), number)) return DONE;
     return complain("%s: %s '%s' is no whole number from -9223372036854775808 to 9223372036854775807", a->command, what, word);
 }
 

@@ -12,8 +12,27 @@ size_t character_length(const unsigned char *c) {
     return wrong ? 0 : length;
 }
 
-/* White space, or what is no control character. */
-static int is_printed(unsigned char c) { return (c >= '\t' && c <= '\r') || (c >= ' ' && c != 0x7f); }
+int is_printed(unsigned char c) { return (c >= '\t' && c <= '\r') || (c >= ' ' && c != 0x7f); }
+
+int read_digits(const char *word, size_t length, uint64_t most, uint64_t *number) {
+    int fits = length > 0;
+    *number = 0;
+    for (size_t k = 0; k < length && fits; k++) {
+        uint64_t digit = (uint64_t)(word[k] - '0');
+        fits = word[k] >= '0' && word[k] <= '9' && *number <= (most - digit) / 10;
+        *number = fits ? 10 * *number + digit : 0;
+    }
+    return fits;
+}
+
+int read_whole(const char *word, size_t length, int64_t *number) {
+    size_t negative = length > 0 && word[0] == '-';
+    uint64_t sum;
+    int fits = read_digits(word + negative, length - negative, (uint64_t)INT64_MAX + negative, &sum);
+    /* -2^63 has no positive counterpart: it is one less than the negative of 2^63 - 1. */
+    *number = !negative ? (int64_t)sum : sum > 0 ? -(int64_t)(sum - 1) - 1 : 0;
+    return fits;
+}
 
 int looks_like_plan_text(const unsigned char *bytes, size_t count) {
     size_t at = 0;

@@ -1,4 +1,4 @@
-/* Lupetzarin: plans over whole numbers with gaps, unpacked, checked, run and traced back by proved code.
+/* Lupetzarin: plans over whole numbers with gaps, packed, unpacked, checked, run and traced back by proved code.
  *
  * Every call answers for any bytes and any buffers; nothing is undefined as long as the caller keeps these:
  *   - a pointer and its length describe memory that the call may read (const) or write; where the length is 0 the pointer may be NULL;
@@ -19,7 +19,7 @@ extern "C" {
 
 /* The version of this header; CHANGELOG.md says what a version promises. LUP_VERSION is one number, to compare; LUP_VERSION_TEXT has points between. */
 #define LUP_VERSION_MAJOR 4
-#define LUP_VERSION_MINOR 0
+#define LUP_VERSION_MINOR 1
 #define LUP_VERSION_PATCH 0
 #define LUP_VERSION (LUP_VERSION_MAJOR * 1000000 + LUP_VERSION_MINOR * 1000 + LUP_VERSION_PATCH)
 #define LUP_VERSION_JOINED(major, minor, patch) #major "." #minor "." #patch
@@ -39,6 +39,10 @@ enum lup_limit {
     LUP_MOST_PACKED_BYTES = 11778,    /* of a packed plan */
     LUP_REFUSAL_CODE = 65536          /* lup_unpack_check answers a refusal as this times its number, plus its place */
 };
+
+/* The least and the greatest word that can be packed; no constants of an enum, since they take over 32 bits. */
+#define LUP_LEAST_PACKED_WORD (-INT64_C(17179869184))
+#define LUP_MOST_PACKED_WORD INT64_C(17179869183)
 
 /* Word 0 of a node. */
 enum lup_operation {
@@ -122,7 +126,8 @@ enum lup_refusal {
     LUP_REFUSED_PACKED_NUMBER = 21,    /* number not in its shortest form of at most 5 bytes (byte) */
     LUP_REFUSED_PACKED_REST = 22,      /* bytes left over (byte) */
     LUP_REFUSED_PACKED_COUNT = 23,     /* node count not 1..256 */
-    LUP_REFUSED_PACKED_OPERATION = 24  /* operation not 0..20 (byte) */
+    LUP_REFUSED_PACKED_OPERATION = 24, /* operation not 0..20 (byte) */
+    LUP_REFUSED_WORD_RANGE = 25        /* a used word not in -17179869184..17179869183 (node) */
 };
 
 /* What a lookup found. */
@@ -146,6 +151,13 @@ uint64_t lup_version(void);
  * and 23 of the node count; 14, table has fewer than 17 words a node; 20, 21 and 24 in byte order; 22.
  * Stack: a frame of 35,056 bytes; memcpy, memset and, on a first call, their lazy binding took 3,136 more with glibc on x86-64. 48 KiB is enough. */
 lup_answer lup_unpack(const uint8_t *bytes, size_t nbytes, int64_t *table, size_t nwords);
+
+/* Packs a table into bytes, the shortest form of each number; bytes past them stay as they were. count: the bytes, 4..11778. lup_unpack of them gives
+ * the table back, and lup_pack of what lup_unpack gave gives the same bytes. Tables that lup_check refuses are packed too: rules 4 to 12 are not asked.
+ * Refusals, in order: 1, the length; 2, 3 and 25, the first node that breaks one of these rules (place: that node) and the first that it breaks; 14,
+ * bytes is shorter than what is to be written, so room for LUP_MOST_PACKED_BYTES is always enough.
+ * Stack: 12,240 bytes measured on plans of 256 nodes (painted stack, x86-64), 3,040 more on a first call with lazy binding; 24 KiB is enough. */
+lup_answer lup_pack(const int64_t *table, size_t nwords, uint8_t *bytes, size_t nbytes);
 
 /* Checks a plan and writes what is derived of its nodes, eight words each: type, device, low, high, four extents with zeros past the rank; words
  * past them stay as they were. count: 0. Refusals, in order: 1, the length; 2 to 11, the first node that breaks a rule (place: that node) and

@@ -1,5 +1,5 @@
-"""Lupetzarin from Python: plans over whole numbers with gaps, unpacked, checked, run and traced back by proved
-code.
+"""Lupetzarin from Python: plans over whole numbers with gaps, packed, unpacked, checked, run and traced back by
+proved code.
 
     import lupetzarin as lup
     plan = lup.Plan(open('bay.plan', 'rb').read())         # unpacked and checked, once
@@ -7,9 +7,10 @@ code.
     result = plan.run(masked)                              # the same of a masked array: a gap where it is masked
     field = result.field(node)                             # a node's elements as a masked array of the node's shape
     place = plan.lookup(node, element)                     # where an element comes from; None for a gap
+    data = lup.pack(table)                                 # the bytes of a plan file, of a table of 17 words a node
 
-unpack, check, unpack_check, run and lookup are the calls of the header, on a plan's table of 17 words a node. A
-refusal raises Refused, with its number, its place and, in words, what was wrong and where. What is no whole
+unpack, pack, check, unpack_check, run and lookup are the calls of the header, on a plan's table of 17 words a node.
+A refusal raises Refused, with its number, its place and, in words, what was wrong and where. What is no whole
 numbers, or none that fit, raises TypeError or OverflowError; flags that contradict a mask raise ValueError.
 
 What is taken as numbers; nothing is ever rounded or cut:
@@ -38,7 +39,8 @@ Results are numpy arrays where numpy can be imported, else arrays of array.array
 
 The library is what LUPETZARIN_LIBRARY names; else liblupetzarin.so beside this file, where pip puts it; else
 build/liblupetzarin.so of the checkout; else what the loader finds under the name liblupetzarin.so.4. One of another
-major version is an ImportError. __version__ is this module's version, version() the library's.
+major version, or of an older minor one, is an ImportError. __version__ is this module's version, version() the
+library's.
 """
 
 from __future__ import annotations
@@ -61,11 +63,13 @@ if TYPE_CHECKING:
     Memory = Union['array[int]', memoryview, 'numpy.ndarray[Any, Any]']
     Numbers = Union[Iterable[int], Memory]
 
-__version__ = '4.0.0'
+__version__ = '4.1.0'
 __all__ = ['DTYPES', 'FILL_VALUE', 'OPERATIONS', 'Place', 'Plan', 'RULES', 'Record', 'Refused', 'Result', 'check',
-           'lookup', 'run', 'unpack', 'unpack_check', 'version']
+           'lookup', 'pack', 'run', 'unpack', 'unpack_check', 'version']
 
 NODE_WORDS, RECORD_WORDS, MOST_NODES, NUMBER_WORD, PARAM, BOOL = 17, 8, 256, 5, 1, 0
+# Of packed plans: the most bytes, and the ends of what a word can be.
+MOST_PACKED_BYTES, LEAST_PACKED_WORD, MOST_PACKED_WORD = 11778, -17179869184, 17179869183
 DTYPES = ('bool', 'u8', 'i16', 'i32')
 OPERATIONS = tuple('CONST PARAM PERMUTE FLIP RESHAPE EXPAND PAD SHRINK CAST ADD MUL MAX IDIV MOD CMPLT CMPNE AND OR '
                    'WHERE REDUCE LOAD'.split())
@@ -96,6 +100,7 @@ RULES = {
     22: ('byte', 'bytes left over'),
     23: ('byte', 'node count not 1..256'),
     24: ('byte', 'operation not 0..20'),
+    25: ('node', 'a used word not in -17179869184..17179869183'),
 }
 # What rule 7 asks of an operation's row and number.
 ROWS = {
@@ -184,7 +189,7 @@ class _Found(ctypes.Structure):
     _fields_ = [(name, ctypes.c_uint64) for name in ('number', 'place', 'found', 'node', 'element')]
 
 
-_MAJOR = int(__version__.partition('.')[0])
+_MAJOR, _MINOR = map(int, __version__.split('.')[:2])
 
 
 def _path() -> str:
@@ -197,14 +202,15 @@ def _path() -> str:
 
 
 def _opened(path: str) -> ctypes.CDLL:
-    """The library of that path, if it is of this major version: the calls of another one may mean something else."""
+    """The library of that path, if it is of this major version, since the calls of another one may mean something
+    else, and not of an older minor one, which has not all of them."""
     try:
         library = ctypes.CDLL(path)
         library.lup_version.argtypes, library.lup_version.restype = [], ctypes.c_uint64
         number = library.lup_version()
     except (OSError, AttributeError) as error:
         raise ImportError(f'lupetzarin: the library {path!r} cannot be loaded: {error}') from None
-    if number // 1000000 != _MAJOR:
+    if number // 1000000 != _MAJOR or number // 1000 % 1000 < _MINOR:
         found = f'{number // 1000000}.{number // 1000 % 1000}.{number % 1000}'
         raise ImportError(f'lupetzarin: the library {path!r} is version {found}, and this module is {__version__}')
     return library
@@ -213,8 +219,8 @@ def _opened(path: str) -> ctypes.CDLL:
 def _load() -> ctypes.CDLL:
     library = _opened(_path())
     buffer = [ctypes.c_void_p, ctypes.c_size_t]
-    calls = (('unpack', 2, 0, _Answer), ('check', 2, 0, _Answer), ('run', 5, 0, _Answer), ('lookup', 1, 2, _Found),
-             ('unpack_check', 1, 0, ctypes.c_uint64))
+    calls = (('unpack', 2, 0, _Answer), ('pack', 2, 0, _Answer), ('check', 2, 0, _Answer), ('run', 5, 0, _Answer),
+             ('lookup', 1, 2, _Found), ('unpack_check', 1, 0, ctypes.c_uint64))
     for name, buffers, numbers, answer in calls:
         call = getattr(library, 'lup_' + name)
         call.argtypes, call.restype = buffer * buffers + [ctypes.c_uint64] * numbers, answer
@@ -366,11 +372,19 @@ def _named(operation: int) -> str:
 
 
 def _refused_table(number: int, place: int, table: Memory) -> Refused:
-    """A refusal of the check: 1 to 12."""
-    if number not in range(2, 12):
+    """A refusal of a table, by the check or the packing."""
+    if RULES.get(number, ('', ''))[0] != 'node':
         return Refused(number, place, '', f'{len(table)} words' if number == 1 else '')
-    operation = _named(int(table[NODE_WORDS * place]))
-    return Refused(number, place, f'node {place} ({operation})', ROWS.get(operation, '') if number == 7 else '')
+    words = [int(word) for word in table[NODE_WORDS * place:NODE_WORDS * (place + 1)]]
+    operation = _named(words[0])
+    more = ROWS.get(operation, '') if number == 7 else _out_of_range(words) if number == 25 else ''
+    return Refused(number, place, f'node {place} ({operation})', more)
+
+
+def _out_of_range(words: list[int]) -> str:
+    """The first word of a node after the operation that cannot be packed."""
+    word = next(k for k in range(1, NODE_WORDS) if not LEAST_PACKED_WORD <= words[k] <= MOST_PACKED_WORD)
+    return f'word {word} is {words[word]}'
 
 
 def _place_text(extents: tuple[int, ...], element: int) -> str:
@@ -498,6 +512,17 @@ def unpack(data: Numbers) -> Memory:
     if answer.number:
         raise Refused(answer.number, answer.place)
     return table[:NODE_WORDS * answer.count]
+
+
+def pack(table: Union[Plan, Numbers]) -> bytes:
+    """The packed bytes of a plan's table, which unpack gives back. Of the rules 1, 2 and 3 alone are asked, and that
+    used words can be packed (25): a table that check refuses is packed too."""
+    words = table._words if isinstance(table, Plan) else table
+    held, room = _held(words, 'q', 'table'), _fresh('B', MOST_PACKED_BYTES)
+    answer = _LIBRARY.lup_pack(*_lent(held), *_lent(room))
+    if answer.number:
+        raise _refused_table(answer.number, answer.place, held)
+    return room[:answer.count].tobytes()
 
 
 def check(table: Union[Plan, Numbers]) -> list[Record]:

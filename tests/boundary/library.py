@@ -107,6 +107,8 @@ class Library:
         self.calls.lup_run.restype = Answer
         self.calls.lup_lookup.argtypes = [ctypes.c_void_p, ctypes.c_size_t, ctypes.c_uint64, ctypes.c_uint64]
         self.calls.lup_lookup.restype = Found
+        self.calls.lup_pack.argtypes = [ctypes.c_void_p, ctypes.c_size_t] * 2
+        self.calls.lup_pack.restype = Answer
         self.made = 0
         self.bytes = Bytes()
         self.inputs = [Bytes(40000), Bytes(MOST_INPUT_BYTES), Bytes(MOST_INPUT_BYTES)]
@@ -147,6 +149,16 @@ class Library:
         answer = self.calls.lup_run(*(argument for pair in zip(starts, rooms) for argument in pair)).triple()
         unchanged = all(memory.hold(data) for memory, data, _ in inputs) and all(result.guards_hold() for result in results)
         return answer, *(result.items() for result in results), unchanged
+
+    def pack(self, plan, data, null=False):
+        """The answer of a packing of the plan's table, the bytes afterwards, and whether all else is as it was. The words end where a page begins
+        that cannot be read."""
+        words, result = array('q', plan).tobytes(), Guarded(array('B', data))
+        source = None if null and not plan else self.inputs[0].put(words)
+        target = None if null and not data else result.start
+        self.made += 1
+        answer = self.calls.lup_pack(source, len(plan), target, len(data)).triple()
+        return answer, result.items().tobytes(), result.guards_hold() and self.inputs[0].hold(words)
 
     def lookup(self, plan, node, element):
         """The five numbers of a lookup, and whether the plan is as it was. The words are an array of 'q' that ends where a page begins that

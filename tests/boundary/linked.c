@@ -62,6 +62,45 @@ static void unpack_examples(void) {
     expect(answers(lup_unpack(five, sizeof five, NULL, 0), 14, 0, 0), "no table: refused 14");
 }
 
+static void fill_bytes(uint8_t *bytes) {
+    for (size_t k = 0; k < ROOM; k++) bytes[k] = (uint8_t)(100 + k);
+}
+
+/* Whether the bytes from `from` on are as fill_bytes left them. */
+static int bytes_stay(const uint8_t *bytes, size_t from) {
+    for (size_t k = from; k < ROOM; k++)
+        if (bytes[k] != 100 + k) return 0;
+    return 1;
+}
+
+/* CONSTs of i16 numbers, packed and read back. */
+static void pack_examples(void) {
+    static const uint8_t five[] = {0x01, 0x00, 0x04, 0x0A}, three_hundred[] = {0x01, 0x00, 0x04, 0xD8, 0x04};
+    int64_t table[17] = {[4] = 2, 5}, again[ROOM];
+    uint8_t bytes[ROOM];
+
+    fill_bytes(bytes);
+    expect(answers(lup_pack(table, 17, bytes, ROOM), 0, 0, 4), "CONST 5: four bytes");
+    expect(!memcmp(bytes, five, sizeof five) && bytes_stay(bytes, 4), "CONST 5: 01 00 04 0A, and the bytes after them as they were");
+    table[5] = 300;
+    expect(answers(lup_pack(table, 17, bytes, 5), 0, 0, 5), "CONST 300, exact room: five bytes");
+    expect(!memcmp(bytes, three_hundred, sizeof three_hundred) && bytes_stay(bytes, 5), "CONST 300: D8 04");
+    fill(again);
+    expect(answers(lup_unpack(bytes, 5, again, ROOM), 0, 0, 1) && holds_const(again, 300), "CONST 300: read back");
+
+    fill_bytes(bytes);
+    expect(answers(lup_pack(table, 17, bytes, 4), LUP_REFUSED_ROOM, 0, 0), "four bytes for five: refused 14");
+    expect(answers(lup_pack(table, 17, NULL, 0), 14, 0, 0), "no bytes: refused 14");
+    expect(answers(lup_pack(NULL, 0, bytes, ROOM), 1, 0, 0), "no table: refused 1");
+    table[5] = 17179869184;
+    expect(answers(lup_pack(table, 17, bytes, 0), LUP_REFUSED_WORD_RANGE, 0, 0), "one above the range: refused 25 before 14");
+    table[16] = INT64_MIN;
+    expect(answers(lup_pack(table, 17, bytes, ROOM), 3, 0, 0), "an unused word: refused 3 before 25");
+    table[0] = 21;
+    expect(answers(lup_pack(table, 17, bytes, ROOM), 2, 0, 0), "operation 21: refused 2 before 3");
+    expect(bytes_stay(bytes, 0), "refused: the bytes as they were");
+}
+
 /* One CONST of type 2 holding 5 */
 static void check_examples(void) {
     static const uint8_t five[] = {0x01, 0x00, 0x04, 0x0A};
@@ -98,17 +137,6 @@ static void small_plan(int64_t *table) {
     memcpy(table + 2 * 17, sum, sizeof sum);
 }
 
-static void fill_flags(uint8_t *flags) {
-    for (size_t k = 0; k < ROOM; k++) flags[k] = (uint8_t)(100 + k);
-}
-
-/* Whether the flags from `from` on are as fill_flags left them. */
-static int flags_stay(const uint8_t *flags, size_t from) {
-    for (size_t k = from; k < ROOM; k++)
-        if (flags[k] != 100 + k) return 0;
-    return 1;
-}
-
 static void run_examples(void) {
     static const int64_t inputs[] = {7, INT64_MIN}, over[] = {9, 10}, wanted[] = {7, 0, 0, 7, 0, 0, 0};
     static const uint8_t known[] = {1, 0}, wanted_flags[] = {1, 0, 0, 1, 0, 0, 0}, bad[] = {1, 2}, both[] = {1, 1};
@@ -117,14 +145,14 @@ static void run_examples(void) {
 
     small_plan(table);
     fill(values);
-    fill_flags(flags);
+    fill_bytes(flags);
     expect(answers(lup_run(table, 3 * 17, inputs, 2, known, 2, values, ROOM, flags, ROOM), 0, 0, 1), "a run: one gap in the output");
     expect(!memcmp(values, wanted, sizeof wanted) && stays(values, 7), "a run: 7 gap, gap 7 gap gap, gap; the values after them as they were");
-    expect(!memcmp(flags, wanted_flags, sizeof wanted_flags) && flags_stay(flags, 7), "a run: the flags, and those after them as they were");
+    expect(!memcmp(flags, wanted_flags, sizeof wanted_flags) && bytes_stay(flags, 7), "a run: the flags, and those after them as they were");
     expect(answers(lup_run(table, 2 * 17, inputs, 2, known, 2, values, 6, flags, 6), 0, 0, 3), "without the sum, exact rooms: three gaps");
 
     fill(values);
-    fill_flags(flags);
+    fill_bytes(flags);
     expect(answers(lup_run(table, 17, inputs, 1, known, 2, values, ROOM, flags, ROOM), 13, 0, 0), "one value for two: refused 13");
     expect(answers(lup_run(table, 17, inputs, 2, known, 1, values, ROOM, flags, ROOM), 13, 0, 0), "one flag for two: refused 13");
     expect(answers(lup_run(table, 17, inputs, 2, known, 2, values, 1, flags, ROOM), 14, 0, 0), "room for one value of two: refused 14");
@@ -132,7 +160,7 @@ static void run_examples(void) {
     expect(answers(lup_run(table, 17, inputs, 2, bad, 2, values, ROOM, flags, ROOM), 15, 1, 0), "flag 2: refused 15 at 1");
     expect(answers(lup_run(table, 17, over, 2, both, 2, values, ROOM, flags, ROOM), 16, 1, 0), "10 over 9: refused 16 at 1");
     expect(answers(lup_run(NULL, 0, NULL, 0, NULL, 0, NULL, 0, NULL, 0), 1, 0, 0), "no table: refused 1");
-    expect(stays(values, 0) && flags_stay(flags, 0), "refused: both buffers as they were");
+    expect(stays(values, 0) && bytes_stay(flags, 0), "refused: both buffers as they were");
 }
 
 static int finds(lup_found f, uint64_t number, uint64_t found, uint64_t node, uint64_t element) {
@@ -155,6 +183,7 @@ static void lookup_examples(void) {
 int main(void) {
     expect(lup_version() == LUP_VERSION, "the version of the header");
     unpack_examples();
+    pack_examples();
     check_examples();
     run_examples();
     lookup_examples();

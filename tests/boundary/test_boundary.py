@@ -16,6 +16,7 @@ sys.path[:0] = [HERE, *(os.path.join(os.path.dirname(HERE), part) for part in ('
 
 import cases  # noqa: E402
 import model  # noqa: E402
+import pack_examples  # noqa: E402
 from counting import Cases  # noqa: E402
 from library import Library, declared, exported  # noqa: E402
 
@@ -217,7 +218,110 @@ def test_unpack_check(tally, library, rng, count):
     tally.same('unpack_check answers met', sorted(met), [0, 4, 5, 6, 7, 8, 9, 10, 11, 12, 20, 21, 22, 23, 24])
 
 
-TESTS = {'lup_unpack': test_unpack, 'lup_check': test_check, 'lup_unpack_check': test_unpack_check}
+# ---------------------------------------------------------------- pack
+
+# What every word of every operation is set to, one at a time: the ends of what is written in one to five bytes, of the range, of 64 bits.
+PACK_SWEEP = sorted({*WORD_ENDS, *cases.PACKED_ENDS, *cases.BEYOND, *cases.EDGES, *(s * 2 ** k for s in (-1, 1) for k in (33, 34, 35, 36, 61, 62))})
+
+
+def byte_pattern(room):
+    return bytes((0xa5 + 7 * k) % 256 for k in range(room))
+
+
+def swept_nodes():
+    """Cases, each some tables: a node of each operation after none to two others, one of its words set to each value of the sweep."""
+    for op in range(model.LOAD + 1):
+        for word in range(model.NODE_WORDS):
+            before = cases.small_node((op + word) % 21) * (word % 3)
+            yield [before + cases.set_node(op, word, value) for value in PACK_SWEEP]
+
+
+def far_words(rng, table):
+    """The table with a word of a node changed, or two, or a word of it put in or taken out."""
+    table = list(table)
+    for _ in range(rng.choice((1, 1, 2))):
+        at = rng.randrange(len(table))
+        table[at] = rng.choice((rng.choice(cases.BEYOND), rng.choice(cases.EDGES), 0, -1, 21))
+    if rng.random() < 0.1:
+        at = rng.randrange(len(table))
+        table[at:at + 1] = rng.choice(([], [0, 0]))
+    return table
+
+
+def random_tables(rng, count):
+    """Cases, each some tables: any words that can be packed, and the same damaged."""
+    for turn in range(count):
+        nodes = rng.choice((1, 1, 2, 3, 5, 8, 13)) if turn % 200 else rng.choice((127, 128, 255, 256))
+        table = random_table(rng, nodes)
+        yield [table, far_words(rng, table)]
+
+
+def pack_inputs(rng, count):
+    """Cases, each some tables: the sweep; the tables of all calls' cases, as they are and damaged; those of pack; random ones."""
+    yield from swept_nodes()
+    yield from ([table, far_words(rng, table) if table else table] for table in tables_of(rng.randrange(2 ** 32), count / 10000))
+    yield from ([case.args[0]] for case in cases.group('packs', 10 ** 6, 1))
+    yield from random_tables(rng, count // 10)
+
+
+def packed(tally, library, plan, room):
+    """A packing against the model, where a length is 0 with NULL too; the number that it answers, and what it wrote."""
+    wanted = bytearray(byte_pattern(room))
+    answer = model.pack(plan, wanted)
+    for null in ((False, True) if room == 0 or not plan else (False,)):
+        got = library.pack(plan, byte_pattern(room), null)
+        tally.same(('pack', plan, room, null), got, (tuple(answer), bytes(wanted), True))
+    return answer.number, bytes(wanted[:answer.count])
+
+
+def packed_in_rooms(tally, library, plan):
+    """A packing with each room, exact, one short, longer and none; "reading what it wrote gives the table back". The numbers that it answers."""
+    size = model.pack(plan, [0] * 11778).count
+    rooms = (size, size - 1, size + 5, 0) if size else (40, 3, 0)
+    answers = [packed(tally, library, plan, room) for room in rooms]
+    if size:
+        data = answers[0][1]
+        got = library.unpack(data, pattern(len(plan) + 2))
+        tally.same(('read back', data.hex()), got, ((0, 0, len(plan) // model.NODE_WORDS), plan + pattern(len(plan) + 2)[len(plan):], True))
+    return [number for number, _ in answers]
+
+
+def written_again(tally, library, data):
+    """"Writing what was read gives the same bytes.\""""
+    answer, table, _ = library.unpack(data, pattern(needed(data)))
+    tally.same(('read', data.hex()), answer[:2], (0, 0))
+    got = library.pack(table[:model.NODE_WORDS * answer[2]], byte_pattern(len(data) + 2))
+    tally.same(('written again', data.hex()), got, ((0, 0, len(data)), data + byte_pattern(len(data) + 2)[len(data):], True))
+
+
+def readable(rng, count):
+    """The bytes of an unpack's cases that are accepted."""
+    for inputs in unpack_inputs(rng, count):
+        data = inputs[0][0]
+        if model.unpack(data, pattern(needed(data))).number == 0:
+            yield data
+
+
+def test_pack(tally, library, rng, count):
+    met = collections.Counter()
+    for example in pack_examples.EXAMPLES:
+        with tally.case(('pack', example.name)):
+            fresh = byte_pattern(example.room)
+            wanted = example.data + fresh[len(example.data):]
+            tally.same(example.name, library.pack(example.table, fresh), (example.answer, wanted, True))
+            met.update(packed_in_rooms(tally, library, example.table))
+    for inputs in pack_inputs(rng, count):
+        with tally.case(('pack', inputs[0])):
+            for plan in inputs:
+                met.update(packed_in_rooms(tally, library, plan))
+    for data in readable(rng, count // 4):
+        with tally.case(('written again', data.hex())):
+            written_again(tally, library, data)
+    print('pack answers met:', ', '.join('%d: %d times' % item for item in sorted(met.items())))
+    tally.same('pack answers met', sorted(met), [0, 1, 2, 3, 14, 25])
+
+
+TESTS = {'lup_unpack': test_unpack, 'lup_check': test_check, 'lup_unpack_check': test_unpack_check, 'lup_pack': test_pack}
 # test_run.py drives lup_run, test_lookup.py lup_lookup, tests/host/test_install.py compares what lup_version answers.
 TESTED = {*TESTS, 'lup_run', 'lup_lookup', 'lup_version'}
 

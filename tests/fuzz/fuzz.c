@@ -21,21 +21,25 @@
 enum { NODE = 17, RECORD = 8, MOST_NODES = 256, MOST_WORDS = NODE * (MOST_NODES + 2), MOST_CELLS = 1 << 15, MOST_BYTES = 13000 };
 enum { PARAM = 1, PERMUTE = 2, RESHAPE = 4, EXPAND = 5, PAD = 6, SHRINK = 7, IDIV = 12, REDUCE = 19, LOAD = 20, OPERATIONS = 21 };
 enum { BOOL, U8, I16, I32 };
+/* The ends of the words that a packed plan can hold. */
+#define LEAST_WORD (-17179869184)
+#define GREATEST_WORD 17179869183
 
 static unsigned long turn, seed, completed;
 
 /* ---- cases */
 
-enum { LEAST_TURNS = 20000, ANSWERS = 25, MOST_TOLD = 20 };
-enum { UNPACK, CHECK, UNPACK_CHECK, RUN, LOOKUP, EXPORTS };
-static const char *const exports[EXPORTS] = {"lup_unpack", "lup_check", "lup_unpack_check", "lup_run", "lup_lookup"};
+enum { LEAST_TURNS = 20000, ANSWERS = 26, MOST_TOLD = 20 };
+enum { UNPACK, CHECK, UNPACK_CHECK, RUN, LOOKUP, PACK, EXPORTS };
+static const char *const exports[EXPORTS] = {"lup_unpack", "lup_check", "lup_unpack_check", "lup_run", "lup_lookup", "lup_pack"};
 
 /* What is given to which export. */
 enum {
     PACKED, PACKED_NO_ROOM, SPOILT, FAULTY_PACKED, CODE_PACKED, CODE_SPOILT, CODE_FAULTY,
     GROWN, UNPACKED, PLAN, PLAN_NO_ROOM, WORDS, FAULTY, NO_NODES,
     GOOD, OTHER_VALUES, OTHER_FLAGS, NO_VALUE_ROOM, NO_FLAG_ROOM, BAD_FLAG, BAD_NUMBER, RUN_WORDS, RUN_FAULTY,
-    FOLLOWED, NOT_FOLLOWED, NO_NODE, NO_ELEMENT, LOOKUP_WORDS, LOOKUP_FAULTY, KINDS
+    FOLLOWED, NOT_FOLLOWED, NO_NODE, NO_ELEMENT, LOOKUP_WORDS, LOOKUP_FAULTY,
+    READ, READ_NO_ROOM, WIDE, WIDE_NO_ROOM, FAR, PACK_ORDER, PACK_WORDS, PACK_FAULTY, PACK_NO_NODES, KINDS
 };
 typedef struct {
     int export;
@@ -72,6 +76,15 @@ static kind kinds[KINDS] = {
     [NO_ELEMENT] = {LOOKUP, "an element that is not there", 0, 0},
     [LOOKUP_WORDS] = {LOOKUP, "a plan with words changed, any node and element", 0, 0},
     [LOOKUP_FAULTY] = {LOOKUP, "a plan that breaks rules or is too large, any node and element", 0, 0},
+    [READ] = {PACK, "a table that was unpacked, room for its bytes", 0, 0},
+    [READ_NO_ROOM] = {PACK, "a table that was unpacked, too little room", 0, 0},
+    [WIDE] = {PACK, "any words that can be packed, room for their bytes", 0, 0},
+    [WIDE_NO_ROOM] = {PACK, "any words that can be packed, too little room", 0, 0},
+    [FAR] = {PACK, "the same with words changed", 0, 0},
+    [PACK_ORDER] = {PACK, "the same with two nodes that break rules", 0, 0},
+    [PACK_WORDS] = {PACK, "a plan with words changed", 0, 0},
+    [PACK_FAULTY] = {PACK, "a plan that breaks rules or is too large", 0, 0},
+    [PACK_NO_NODES] = {PACK, "a length that is not 1 to 256 nodes", 0, 0},
 };
 
 /* The answers that each export can give by the header, as bits; each of them has to be met, and none beside them. Of bytes that
@@ -83,6 +96,7 @@ static const uint32_t possible[EXPORTS] = {
     [UNPACK_CHECK] = BITS(0, 0) | BITS(4, 12) | BITS(20, 24),
     [RUN] = BITS(0, 16),
     [LOOKUP] = BITS(0, 12) | BITS(17, 17),
+    [PACK] = BITS(0, 3) | BITS(14, 14) | BITS(25, 25),
 };
 static unsigned long answers[EXPORTS][ANSWERS], operations[OPERATIONS], gaps_found;
 
@@ -148,7 +162,8 @@ static int one_in(size_t n) { return below(n) == 0; }
 
 static int64_t edge(void) {
     static const int64_t edges[] = {0, 1, -1, 2, 3, 4, 5, 15, 16, 20, 21, 127, 128, 255, 256, 32767, 32768, -32768, -32769, 1048576, 1048577, 4194304, 2147483647, 2147483648,
-                                    -2147483648, -2147483649, (int64_t)1 << 32, (int64_t)1 << 34, INT64_MAX, INT64_MIN, INT64_MAX - 1, INT64_MIN + 1};
+                                    -2147483648, -2147483649, (int64_t)1 << 32, LEAST_WORD, LEAST_WORD - 1, GREATEST_WORD, GREATEST_WORD + 1,
+                                    INT64_MAX, INT64_MIN, INT64_MAX - 1, INT64_MIN + 1};
     return one_in(4) ? (int64_t)any() : edges[below(sizeof edges / sizeof *edges)];
 }
 
@@ -336,6 +351,42 @@ static lup_answer unpacking_due(const uint8_t *bytes, size_t n, size_t room) {
     return at < n ? (lup_answer){22, at, 0} : (lup_answer){0, 0, count};
 }
 
+static int no_nodes(size_t n) { return n % NODE || n == 0 || n > NODE * MOST_NODES; }
+
+/* What a packing has to answer, with so many bytes of room; where it is accepted, the bytes go into `to`. */
+static lup_answer packing_due(const int64_t *words, size_t n, size_t room, uint8_t *to) {
+    if (no_nodes(n)) return (lup_answer){1, 0, 0};
+    for (size_t i = 0; i < n / NODE; i++) {
+        const int64_t *w = words + NODE * i;
+        int set = 0, far = 0;
+        if (w[0] < 0 || w[0] >= OPERATIONS) return (lup_answer){2, i, 0};
+        for (int k = 1; k < NODE; k++) {
+            if (used(w[0]) >> k & 1) far |= w[k] < LEAST_WORD || w[k] > GREATEST_WORD;
+            else set |= w[k] != 0;
+        }
+        if (set || far) return (lup_answer){set ? 3 : 25, i, 0};
+    }
+    size_t size = pack(to, words, n / NODE);
+    return room < size ? (lup_answer){14, 0, 0} : (lup_answer){0, 0, size};
+}
+
+/* A word that can be packed, in one byte or more by chance. */
+static int64_t wide_word(void) {
+    int64_t n = (int64_t)(any() >> (29 + below(35)));
+    return n & 1 ? -(n >> 1) - 1 : n >> 1;
+}
+
+/* Nodes of any operations with any words that can be packed; no other rule is kept. */
+static void widen(int64_t *words, size_t count) {
+    memset(words, 0, 8 * NODE * count);
+    for (size_t i = 0; i < count; i++) {
+        int64_t *w = words + NODE * i;
+        w[0] = (int64_t)below(OPERATIONS);
+        for (int k = 1; k < NODE; k++)
+            if (used(w[0]) >> k & 1) w[k] = one_in(9) ? LEAST_WORD : one_in(9) ? GREATEST_WORD : wide_word();
+    }
+}
+
 /* ---- plans that break rules */
 
 /* An accepted plan with more nodes, of which the last breaks rules; or it has too many elements; or both. */
@@ -384,10 +435,65 @@ static void add_quotient(uint32_t rules) {
     if (breaks(rules, 4)) w[1 + below(2)] = one_in(2) ? -1 : first + 2;
 }
 
+/* A node that breaks these rules of a packing. */
+static const uint32_t pack_rules = BITS(2, 3) | BITS(25, 25);
+static void break_node(int64_t *w, uint32_t rules) {
+    size_t unused = 1 + below(16), own = 1 + below(16);
+    while (used(w[0]) >> unused & 1) unused = 1 + below(16);
+    while (!(used(w[0]) >> own & 1)) own = 1 + below(16);
+    if (breaks(rules, 3)) w[unused] = one_in(2) ? 1 : INT64_MIN;
+    if (breaks(rules, 25)) w[own] = one_in(2) ? LEAST_WORD - 1 : GREATEST_WORD + 1;
+    if (breaks(rules, 2)) w[0] = one_in(2) ? OPERATIONS : -1;
+}
+
 /* ---- the calls */
 
-/* Bytes with any room for their table. */
+/* Words with any room for their bytes; what is packed is unpacked again. */
+static void pack_turn(const int64_t *words, size_t n, int which) {
+    static uint8_t wanted[MOST_BYTES];
+    size_t size = packing_due(words, n, MOST_BYTES, wanted).count, room = one_in(3) ? below(size + 9) : size + below(9);
+    lup_answer due = packing_due(words, n, room, wanted);
+    lay(&table, words, 8 * n);
+    lay(&packed, NULL, room);
+    if (no_nodes(n)) given(PACK_NO_NODES);
+    else given(which == READ && room < size ? READ_NO_ROOM : which == WIDE && room < size ? WIDE_NO_ROOM : which);
+    lup_answer a = answered(lup_pack((int64_t *)table.at, n, packed.at, room));
+    expect(stays(&table, 0), "its table as it was");
+    expect(is(due) && a.count == due.count, "the answer that is due");
+    expect(a.count <= room && stays(&packed, a.count), "the bytes past what it writes, all where it is refused");
+    if (a.number || a.count != size) return;
+    expect(!memcmp(packed.at, wanted, size), "the bytes of the table");
+    lay(&table, NULL, 8 * n);
+    lup_answer back = lup_unpack(packed.at, size, (int64_t *)table.at, n);
+    expect(back.number == 0 && back.count == n / NODE && !memcmp(table.at, words, 8 * n), "the table that it packed, read back");
+}
+
+/* Any words that can be packed, then changed, then with nodes that break rules: the first of 1, of 2, 3 and 25 at the earlier node, of 14. */
+static void wide_turn(void) {
+    static int64_t words[MOST_WORDS];
+    static const unsigned order[] = {2, 3, 25};
+    size_t count = one_in(30) ? 1 + below(MOST_NODES) : one_in(90) ? MOST_NODES + 1 : 1 + below(12);
+    size_t n = NODE * count, first = below(count), second = first + below(count - first);
+    uint32_t rules = pack_rules & (uint32_t)any();
+    widen(words, count);
+    pack_turn(words, n, WIDE);
+    for (size_t k = 1 + below(3); k > 0; k--) words[below(n)] = edge();
+    pack_turn(words, one_in(8) ? below(n + NODE) : n, FAR);
+    widen(words, count);
+    rules = rules ? rules : BITS(25, 25);
+    if (second > first) break_node(words + NODE * second, pack_rules & (uint32_t)any());
+    break_node(words + NODE * first, rules);
+    lup_answer due = {0, first, 0};
+    for (int k = 2; k >= 0; k--)
+        if (breaks(rules, order[k])) due.number = order[k];
+    n += one_in(8);
+    pack_turn(words, n, PACK_ORDER);
+    expect(is(no_nodes(n) ? (lup_answer){1, 0, 0} : due), "the first refusal of the earlier node, 1 before it");
+}
+
+/* Bytes with any room for their table; what is unpacked is packed again. */
 static void unpack_turn(const uint8_t *bytes, size_t n, int which) {
+    static int64_t read[MOST_WORDS];
     size_t room = one_in(3) ? below(NODE * (nodes + 2)) : (size_t)NODE * MOST_NODES;
     lay(&packed, bytes, n);
     lay(&table, NULL, 8 * room);
@@ -401,6 +507,10 @@ static void unpack_turn(const uint8_t *bytes, size_t n, int which) {
     if (under_way == PACKED_NO_ROOM) expect(a.number == 14, "refused 14");
     same = a.number == 0 && a.count == faulty_nodes && !memcmp(table.at, faulty, 8 * NODE * faulty_nodes);
     if (under_way == FAULTY_PACKED && a.number != 14) expect(same, "the plan that was packed");
+    if (a.number || a.count != due.count) return;
+    memcpy(read, table.at, 8 * NODE * a.count);
+    pack_turn(read, NODE * a.count, READ);
+    expect(said[0] == 14 || (said[2] == n && !memcmp(packed.at, bytes, n)), "the bytes that were read");
 }
 
 /* The same bytes by unpacking and checking, and by both in one call; the number that this call answers. */
@@ -428,10 +538,9 @@ static uint64_t code_turn(const uint8_t *bytes, size_t n, int which) {
 /* A check of words with any room; its answer where there is room enough. */
 static lup_answer check_turn(const int64_t *words, size_t n, int which) {
     size_t room = one_in(3) ? below(RECORD * (n / NODE + 2)) : (size_t)RECORD * MOST_NODES;
-    int no_nodes = n % NODE || n == 0 || n > NODE * MOST_NODES;
     lay(&table, words, 8 * n);
     lay(&derived, NULL, 8 * RECORD * MOST_NODES);
-    given(no_nodes ? NO_NODES : which == PLAN && room < RECORD * nodes ? PLAN_NO_ROOM : which);
+    given(no_nodes(n) ? NO_NODES : which == PLAN && room < RECORD * nodes ? PLAN_NO_ROOM : which);
     lup_answer full = answered(lup_check((int64_t *)table.at, n, (int64_t *)derived.at, RECORD * MOST_NODES));
     lay(&derived, NULL, 8 * room);
     lup_answer a = answered(lup_check((int64_t *)table.at, n, (int64_t *)derived.at, room));
@@ -597,6 +706,8 @@ static void faulty_turn(void) {
     check_turn(faulty, NODE * faulty_nodes, FAULTY);
     expect(is(due), "the least rule that is broken, at the last node, else 12");
     wild_turn(faulty, NODE * faulty_nodes, due, RUN_FAULTY, LOOKUP_FAULTY);
+    pack_turn(faulty, NODE * faulty_nodes, PACK_FAULTY);
+    expect(breaks(rules, 2) || breaks(rules, 3) ? is(due) : said[0] == 0 || said[0] == 14, "2 and 3 alone of the rules of a check");
     if (breaks(rules, 2) || breaks(rules, 3)) return;
     size_t n = pack(bytes, faulty, faulty_nodes);
     unpack_turn(bytes, n, FAULTY_PACKED);
@@ -621,6 +732,8 @@ static void one_turn(void) {
     for (size_t k = 1 + below(3); k > 0; k--) words[below(n)] = edge();
     if (one_in(8)) n = below(n + NODE);
     wild_turn(words, n, check_turn(words, n, WORDS), RUN_WORDS, LOOKUP_WORDS);
+    pack_turn(words, n, PACK_WORDS);
+    wide_turn();
     faulty_turn();
 }
 

@@ -1,11 +1,12 @@
 #!/usr/bin/env python3
-"""The assembler of plans: text to bytes and back, against the tables and the packing of the independent model; what
-it reads, what it writes and what it leaves alone.
+"""The assembler of plans: text to bytes and back, against the tables and the packing of the independent model and the
+library's own packing; what it reads, what it writes and what it leaves alone.
 
 usage: test_assembler.py [COUNT] [SEED]     last line: 'N passed, 0 failed'
 """
 
 import errno
+import glob
 import os
 import resource
 import signal
@@ -20,10 +21,11 @@ from random import Random
 sys.dont_write_bytecode = True
 ROOT = os.path.dirname(os.path.dirname(os.path.dirname(os.path.abspath(__file__))))
 sys.path[:0] = [os.path.join(ROOT, part) for part in
-                ('host', 'tests/host', 'tests/model', 'tests/boundary', 'tests/tools', 'demo')]
+                ('host', 'python', 'tests/host', 'tests/model', 'tests/boundary', 'tests/tools', 'demo')]
 
 import cases  # noqa: E402
 import lupasm  # noqa: E402
+import lupetzarin  # noqa: E402
 import make_bay  # noqa: E402
 import model  # noqa: E402
 import run_cases  # noqa: E402
@@ -85,12 +87,18 @@ WRONG = (
 )
 
 
+def expect_packed(tally, text):
+    """The assembler has a writer of its own; its bytes are those of lup_pack."""
+    tally.same(('lup_pack', text[:60]), lupasm.assemble(text), lupetzarin.pack(lupasm.table_of(text)))
+
+
 def test_lines(tally):
     for line, words in LINES:
         text = f'w = param i16 -500..500 40x12 device 1\na = {line}  # the line\n'
         with tally.case(line):
             tally.same(line, lupasm.table_of(text), WIND + words)
             tally.same(line, lupasm.assemble(text), cases.pack(WIND + words))
+            expect_packed(tally, text)
             again = lupasm.back(cases.pack(WIND + words))
             tally.same(f'{line}, back', lupasm.table_of(again), WIND + words)
             if not line.startswith('node'):
@@ -115,7 +123,9 @@ def test_ranks(tally):
     for line, rank in RANKED:
         text = f'{W}{V}a = {line}\nb = flip a '
         found = [k for k in range(5) if accepts(text + ('x'.join('1' * k) or '-'))]
-        tally.same(('the rank of', line), found, [rank])
+        with tally.case(('the rank of', line)):
+            tally.same('the rank', found, [rank])
+            expect_packed(tally, text + ('x'.join('1' * rank) or '-'))
 
 
 def without_last(line):
@@ -136,6 +146,7 @@ def test_plans(tally, rng, count):
         text = lupasm.back(data)
         with tally.case((run.note, text)):
             tally.same('there and back', lupasm.assemble(text), data)
+            expect_packed(tally, text)
             tally.same('in words', ' = node ' in text, False)
             lines = text.split('\n')
             for number, line in enumerate(lines[:-1]):
@@ -147,7 +158,10 @@ def test_plans(tally, rng, count):
         for _ in range(rng.randint(1, 6)):
             op = rng.randrange(21)
             table += node(op, {word: rng.choice((0, 1, 2, 3, rng.choice(ends))) for word in model.USED_WORDS[op]})
-        tally.same('any words', lupasm.table_of(lupasm.back(cases.pack(table))), table)
+        with tally.case(('any words', table)):
+            text = lupasm.back(cases.pack(table))
+            tally.same('there and back', lupasm.table_of(text), table)
+            expect_packed(tally, text)
 
 
 # ------------------------------------------------------------- the program
@@ -707,6 +721,11 @@ def test_example(tally):
                 tally.same(name, fresh.read() == kept.read(), True)
     with open(os.path.join(ROOT, 'demo', 'bay.lup'), encoding='utf-8') as file:
         tally.same('bay.lup is accepted', model.verdict(lupasm.table_of(file.read()))[0], 0)
+    texts = glob.glob(os.path.join(ROOT, 'demo', '*.lup'))
+    tally.holds('the plans of the demo', len(texts) >= 2, texts)
+    for path in sorted(texts):
+        with open(path, encoding='utf-8') as file:
+            expect_packed(tally, file.read())
 
 
 def main():

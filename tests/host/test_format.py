@@ -286,6 +286,7 @@ def placed():
     yield 15, model.run(table, [1] * 8, [1] * 7 + [2], [0] * 9, [0] * 9)
     yield 16, model.run(table, [1] * 7 + [10], [1] * 8, [0] * 9, [0] * 9)
     yield 17, model.lookup(table, 1, 1)
+    yield 25, model.pack([*table[:22], 2 ** 34, *table[23:]], [0] * 30)
     for number, data in ((20, '02 00 04 0A 00 80'), (21, '02 00 04 0A 00 80 00'), (22, '01 00 04 0A 00'), (23, '00'), (24, '02 00 04 0A 15')):
         yield number, model.unpack(bytes.fromhex(data), [0] * 34)
 
@@ -312,6 +313,7 @@ def answered(call, faults):
     if 11 in faults:
         lines.append('r = const u8 256')
     table, data = plan_of('; '.join(lines)), bytearray(lupasm.assemble('\n'.join(lines)))
+    table[lupasm.LOW] = 2 ** 34 if 25 in faults else table[lupasm.LOW]
     table = table[:len(table) - (1 in faults)]
     data[0] *= 23 not in faults
     data[1] = 21 if 24 in faults else data[1]
@@ -323,6 +325,8 @@ def answered(call, faults):
         return model.run(table, [1] * (8 - (13 in faults)), [1] * 7 + [1 + (15 in faults)], room, list(room)).number
     if call == 'lup_lookup':
         return model.lookup(table, 999 if 17 in faults else 0, 0).number
+    if call == 'lup_pack':
+        return model.pack(table, room).number
     return model.unpack(data, room).number if call == 'lup_unpack' else model.unpack_check(data) // 65536
 
 
@@ -333,19 +337,23 @@ def fuzzed_answers():
     return {'lup_' + name.lower(): {n for first, last in pairs for n in range(int(first), int(last) + 1)} for name, pairs in ends.items()}
 
 
+# One of each step of a call, by which test_order makes it due.
+FAULTS = (1, 11, 12, 13, 14, 15, 17, 22, 23, 24, 25)
+
+
 def test_order(tally, page):
     """Of any two steps of a call the earlier one decides where both are due."""
     every, fuzzed = set(), fuzzed_answers()
     for call, cell in page.table('call', 'order'):
         steps = [numbers_of(step) for step in re.sub(r' \([^)]*\)', '', cell).split('; ')]
-        faults = [next(fault for fault in (1, 11, 12, 13, 14, 15, 17, 22, 23, 24) if fault in step) for step in steps]
+        faults = [next(fault for fault in FAULTS if fault in step) for step in steps]
         every |= set(sum(steps, ()))
         tally.same((call, 'what fuzz.c allows'), fuzzed.get(call), {0, *sum(steps, ())})
         for fault in faults:
             tally.same((call, fault), answered(call, {fault}), fault)
         for first, second in combinations(faults, 2):
             tally.same((call, first, second), answered(call, {first, second}), first)
-        for fault in {1, 11, 12, 13, 14, 15, 17, 22, 23, 24} - set(faults):
+        for fault in set(FAULTS) - set(faults):
             tally.holds((call, 'never', fault), answered(call, {fault}) != fault)
     numbers = [int(row[0]) for row in page.table('number', 'given when', 'place')]
     tally.same('every number is given by a call', sorted(every), numbers)
@@ -358,7 +366,7 @@ def test_packed(tally, page):
         data = bytes.fromhex(coded)
         tally.same((word, 'written'), lupasm.number_bytes(int(written)), data)
         tally.same((word, 'read'), model.read_number(data, 0), (int(written), len(data)))
-        tally.same((word, 'as'), model.word_of(int(written)), int(word))
+        tally.same((word, 'as'), (model.word_of(int(written)), model.number_of(int(word))), (int(word), int(written)))
     listings = [text for language, text in page.blocks if text.startswith('node op')]
     rows = page.table('text', 'bytes')
     tally.same('listings', len(listings), len(rows))
@@ -368,6 +376,8 @@ def test_packed(tally, page):
         table = [0] * len(plan_of(text))
         model.unpack(bytes.fromhex(coded), table)
         tally.same((text, 'unpacked'), table, plan_of(text))
+        data = bytearray(len(bytes.fromhex(coded)))
+        tally.same((text, 'written'), (model.pack(table, data), data.hex()), ((0, 0, len(data)), bytes.fromhex(coded).hex()))
 
 
 def test_prose(tally, page, text):
@@ -384,7 +394,7 @@ def test_prose(tally, page, text):
     tally.same('the example of the text form', (len(example.splitlines()), model.verdict(lupasm.table_of(example))[0]), (3, 0))
     stacks = re.findall(r'(\d+ KiB) is enough\. \*/\n\w+ (lup_\w+)\(', read('include', 'lupetzarin.h'))
     tally.same('stack', page.table('call', 'stack that is enough'), [[call, stack] for stack, call in stacks])
-    tally.same('calls', [row[0] for row in page.table('call', 'order')], ['lup_check', 'lup_run', 'lup_lookup', 'lup_unpack', 'lup_unpack_check'])
+    tally.same('calls', [row[0] for row in page.table('call', 'order')], ['lup_check', 'lup_run', 'lup_lookup', 'lup_unpack', 'lup_unpack_check', 'lup_pack'])
 
 
 # ------------------------------------------------------------------ section 9

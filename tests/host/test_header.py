@@ -23,9 +23,11 @@ from test_format import Page, plan_of  # noqa: E402
 
 WARNINGS = '-Wall', '-Wextra', '-Wpedantic', '-Werror'
 MACROS = 'LUP_VERSION_MAJOR', 'LUP_VERSION_MINOR', 'LUP_VERSION_PATCH', 'LUP_VERSION'
+# The ends of what can be packed, which are wider than an enum's constants.
+ENDS = 'LUP_LEAST_PACKED_WORD', 'LUP_MOST_PACKED_WORD'
 # Names that callers have written down stay; 18 and 19 are not given.
 REFUSALS = ('LENGTH OPERATION UNUSED_WORD SOURCE TYPE OPERAND_TYPES ROW_OR_NUMBER SHAPE DEVICES DIVISOR BOUNDS ELEMENTS INPUT_LENGTH ROOM FLAG VALUE LOOKUP'
-            ' - - PACKED_END PACKED_NUMBER PACKED_REST PACKED_COUNT PACKED_OPERATION').split()
+            ' - - PACKED_END PACKED_NUMBER PACKED_REST PACKED_COUNT PACKED_OPERATION WORD_RANGE').split()
 # Words of a node by their names in docs/FORMAT.md, and of those that stand together the first.
 WORDS = {'operation': ('OPERATION',), 'sources': ('SOURCE',), 'type': ('TYPE',), 'number': ('NUMBER',), 'device': ('DEVICE',), 'low, high': ('LOW', 'HIGH'),
          'row A': ('ROW_A',), 'row B': ('ROW_B',)}
@@ -66,6 +68,14 @@ def limits(page):
             'LUP_DERIVED_WORDS': lupetzarin.RECORD_WORDS, 'LUP_REFUSAL_CODE': model.unpack_check(b'') // 20}
 
 
+def ends(page):
+    """The ends of what can be packed, as the row of refusal 25 has them; both take five bytes, and one more cannot be written so."""
+    words = dict((row[0], row[1]) for row in page.table('number', 'given when', 'place'))['25']
+    low, high = map(int, re.search(r'(-\d+)\.\.(\d+)$', words).groups())
+    assert model.word_of(2 ** 35 - 1) == low and model.word_of(2 ** 35 - 2) == high, (low, high)
+    return dict(zip(ENDS, (low, high)))
+
+
 def derived():
     """Where the model's check writes type, device, low, high and the extents of a node: each has a number of its own there."""
     room = [0] * 8
@@ -82,7 +92,7 @@ def wanted(page):
     names.update({'LUP_REDUCE_' + kind: kinds[lupasm.NODE_WORDS * node + lupasm.NUMBER] for node, kind in ((1, 'SUM'), (2, 'GREATEST'))})
     padded = plan_of('x = param u8 0..9 2 device 1; a = pad x 4 at 1')
     names.update({'LUP_FOUND_' + kind: model.lookup(padded, 1, element).found for element, kind in ((1, 'PLACE'), (0, 'GAP'), (4, 'NOTHING'))})
-    return {**names, **numbers_of_words(page), **limits(page), **derived(), 'LUP_ACCEPTED': 0}
+    return {**names, **numbers_of_words(page), **limits(page), **ends(page), **derived(), 'LUP_ACCEPTED': 0}
 
 
 def test_names(tally, page, text):
@@ -90,14 +100,14 @@ def test_names(tally, page, text):
     enums = re.findall(r'^enum lup_\w+ \{(.*?)\};', text, re.M | re.S)
     declared = [name for body in enums for name in re.findall(r'\b(LUP_\w+) = ', body)]
     tally.same('each name once', sorted(set(declared)), sorted(declared))
-    numbers, version = compiled([*declared, *MACROS])
+    numbers, version = compiled([*declared, *MACROS, *ENDS])
     for name, number in wanted(page).items():
         tally.same(name, numbers.pop(name, None), number)
     major, minor, patch, whole = (numbers.pop(name) for name in MACROS)
     tally.same('LUP_VERSION', whole, 1000000 * major + 1000 * minor + patch)
     tally.same('LUP_VERSION_TEXT', version, f'{major}.{minor}.{patch}')
     tally.same('names of which nothing is known', numbers, {})
-    others = set(re.findall(r'\bLUP_\w+', text)) - set(declared) - set(MACROS)
+    others = set(re.findall(r'\bLUP_\w+', text)) - {*declared, *MACROS, *ENDS}
     tally.same('other names', others, {'LUP_VERSION_JOINED', 'LUP_VERSION_OF', 'LUP_VERSION_TEXT'})
 
 
@@ -110,7 +120,8 @@ def test_python(tally, page):
     tally.same('types of the model', sorted(types.values()), sorted(model.TYPE_LIMITS))
     tally.same('refusals', sorted(lupetzarin.RULES), sorted(k for name, k in names.items() if '_REFUSED_' in name))
     for name, number in (('NODE_WORDS', lupetzarin.NODE_WORDS), ('MOST_NODES', lupetzarin.MOST_NODES), ('WORD_NUMBER', lupetzarin.NUMBER_WORD),
-                         ('OP_PARAM', lupetzarin.PARAM), ('TYPE_BOOL', lupetzarin.BOOL), ('WORD_SOURCE', lupasm.SOURCE), ('WORD_TYPE', lupasm.TYPE),
+                         ('MOST_PACKED_BYTES', lupetzarin.MOST_PACKED_BYTES), ('LEAST_PACKED_WORD', lupetzarin.LEAST_PACKED_WORD),
+                         ('MOST_PACKED_WORD', lupetzarin.MOST_PACKED_WORD), ('OP_PARAM', lupetzarin.PARAM), ('TYPE_BOOL', lupetzarin.BOOL), ('WORD_SOURCE', lupasm.SOURCE), ('WORD_TYPE', lupasm.TYPE),
                          ('WORD_ROW_A', lupasm.ROW_A), ('WORD_ROW_B', lupasm.ROW_B), ('OP_REDUCE', lupasm.REDUCE)):
         tally.same(name, number, names['LUP_' + name])
 

@@ -1,5 +1,6 @@
 #!/usr/bin/env python3
-"""Drives the program lup against the independent model: every command, every refusal that can reach it, damaged files, misuse, and random damage.
+"""Drives the program lup against the independent model: every command, every refusal that can reach it, damaged files, misuse, and random damage. What
+pack and unpack make of tables and plans is in test_table.py; here is what they share with the others.
 
 usage: test_host.py [PROGRAM] [COUNT] [SEED]     PROGRAM: build/lup, or build/lup-sanitized; COUNT: random damages; last line: 'N passed, 0 failed'
 """
@@ -41,11 +42,14 @@ from wording import (LARGE as MOST, OPERATIONS, RULES, SHADES, TYPES, bounds_of,
 
 BOOL, U8, I16, I32 = range(4)
 LIST = os.path.join(ROOT, 'build', 'list')
-COMMANDS = ('list', 'check', 'run', 'lookup', 'show')
+COMMANDS = ('list', 'check', 'run', 'lookup', 'show', 'pack', 'unpack')
 OLD = field_bytes((2,), [1, None])
 PAIR = param(0, I16, -9, 9, (2,))
 SIX = param(0, I16, -9, 9, (2, 3))
 PADDED = PAIR + move(PAD, 0, (4,), (1,))
+# The text of that table, and what is told of its plan.
+TABLE = b'1 0 0 0 2 0 1 -9 9 2 0 0 0 0 0 0 0\n6 0 0 0 0 0 0 0 0 4 0 0 0 1 0 0 0\n'
+PACKED = 'written: {}, 2 nodes in 21 bytes\n'
 
 
 # ------------------------------------------------------- plans and refusals
@@ -115,7 +119,7 @@ def test_plan_text(tally, lup):
     for data, more in several:
         lup.put('bay.lup', data)
         first = refusal_text('bay.lup', data)
-        for call in (('check', 'bay.lup'), ('list', 'bay.lup'), ('run', 'bay.lup', '-o', 'x'), ('lookup', 'bay.lup', '0', '0')):
+        for call in (('check', 'bay.lup'), ('list', 'bay.lup'), ('run', 'bay.lup', '-o', 'x'), ('lookup', 'bay.lup', '0', '0'), ('unpack', 'bay.lup')):
             tally.same((call, data[:40]), lup.run(*call)[::2], (1, first + more))
     os.remove(lup.at('bay.lup'))
 
@@ -915,12 +919,13 @@ def test_damaged_fields(tally, lup):
             tally.same((what, 'nothing is written'), lup.files() == before, True)
             tally.same((what, 'the reader here'), read_field(data), None)
     os.mkdir(lup.at('folder'))
-    for call in (('show', 'folder'), ('run', 'p.plan', 'folder', '-o', 'out.field'), ('check', 'folder'), ('list', 'folder'), ('lookup', 'folder', '0', '0')):
+    for call in (('show', 'folder'), ('run', 'p.plan', 'folder', '-o', 'out.field'), ('check', 'folder'), ('list', 'folder'), ('lookup', 'folder', '0', '0'),
+                 ('unpack', 'folder'), ('pack', 'folder', '-o', 'out.plan')):
         status, text, errors = lup.run(*call)
         tally.same((call, 'a directory'), (status, text, errors.startswith('lup: folder: ')), (2, '', True))
     status, text, errors = lup.run('show', 'none.field')
     tally.same('show of nothing', (status, text, errors), (2, '', 'lup: none.field: it cannot be opened: No such file or directory\n'))
-    for call in (('check', 'no.plan'), ('list', 'no.plan'), ('lookup', 'no.plan', '0', '0'), ('run', 'no.plan', '-o', 'out.field')):
+    for call in (('check', 'no.plan'), ('list', 'no.plan'), ('lookup', 'no.plan', '0', '0'), ('run', 'no.plan', '-o', 'out.field'), ('unpack', 'no.plan')):
         tally.same(call, lup.run(*call), (2, '', 'lup: no.plan: the plan cannot be opened: No such file or directory\n'))
     os.rmdir(lup.at('folder'))
 
@@ -979,6 +984,11 @@ def refused_outputs(lup):
     yield from ((('show', 'a.field', '--png', name), 'no plain file') for name in ('folder', 'link.field', 'pipe.field'))
     yield (*svg, 'folder'), 'no plain file'
     yield (*svg, 'none/x.svg'), 'No such file or directory'
+    for call, source, hard in ((('pack', 't.table', '-o'), 't.table', 'hard.table'), (('unpack', 'p.plan', '-o'), 'p.plan', 'hard.plan')):
+        yield from (((*call, same), 'to be read and to be written') for same in (source, f'./{source}', f'folder/../{source}', lup.at(source), hard))
+        yield from (((*call, name), 'no plain file') for name in ('folder', 'link.field', 'pipe.field'))
+        yield (*call, 'none/x'), 'No such file or directory'
+        yield (*call, ''), 'empty'
 
 
 def test_output(tally, lup):
@@ -992,7 +1002,10 @@ def test_output(tally, lup):
     os.mkdir(lup.at('folder'))
     os.symlink('out.field', lup.at('link.field'))
     os.mkfifo(lup.at('pipe.field'))
-    os.link(lup.at('a.field'), lup.at('hard.field'))
+    lup.put('t.table', TABLE)
+    hard = {'a.field': 'hard.field', 't.table': 'hard.table', 'p.plan': 'hard.plan'}
+    for name, link in hard.items():
+        os.link(lup.at(name), lup.at(link))
     before = lup.files()
     for call, words in refused_outputs(lup):
         with tally.case(call):
@@ -1000,7 +1013,7 @@ def test_output(tally, lup):
             tally.same((call, 'status'), (status, text), (2, ''))
             tally.holds((call, 'message'), errors.startswith('lup: ') and words in errors and errors.count('\n') == 1, errors)
             tally.same((call, 'all stays'), lup.files() == before, True)
-    for name in ('link.field', 'hard.field', 'pipe.field'):
+    for name in ('link.field', 'pipe.field', *hard.values()):
         os.remove(lup.at(name))
     with tally.case('a file in another folder'):
         tally.same('a file in another folder', lup.run('run', 'p.plan', 'a.field', '-o', 'folder/a.field')[0], 0)
@@ -1021,7 +1034,8 @@ def test_closed_folder(tally, lup):
     os.chmod(lup.at('closed/out.field'), 0o666)
     os.chmod(lup.at('closed'), 0o555)
     before = lup.files()
-    for call in (('run', 'p.plan', 'a.field', '-o', 'closed/out.field'), ('show', 'a.field', '--svg', 'closed/out.svg')):
+    for call in (('run', 'p.plan', 'a.field', '-o', 'closed/out.field'), ('show', 'a.field', '--svg', 'closed/out.svg'),
+                 ('pack', 't.table', '-o', 'closed/out.plan'), ('unpack', 'p.plan', '-o', 'closed/out.table')):
         status, text, errors = lup.run(*call, **as_nobody())
         tally.same((call, 'a closed folder'), (status, text, errors.split(': ')[-1]), (2, '', 'Permission denied\n'))
     tally.same('nothing in a closed folder', lup.files() == before, True)
@@ -1036,8 +1050,10 @@ def short_files():
 
 def test_full(tally, lup):
     """A disk that is full under FIELD, and standard output that cannot be written."""
+    lup.put('long.table', TABLE * 9)
     before = lup.files()
-    for call in (('run', 'p.plan', 'a.field', '-o', 'out.field'), ('show', 'a.field', '--svg', 'out.svg'), ('show', 'a.field', '--png', 'out.png')):
+    for call in (('run', 'p.plan', 'a.field', '-o', 'out.field'), ('show', 'a.field', '--svg', 'out.svg'), ('show', 'a.field', '--png', 'out.png'),
+                 ('pack', 'long.table', '-o', 'out.plan'), ('unpack', 'p.plan', '-o', 'out.table')):
         with tally.case((call, 'full')):
             status, text, errors = lup.run(*call, preexec_fn=short_files)
             tally.same((call, 'full'), (status, text, errors), (2, '', f'lup: {call[-1]}: it cannot be written: File too large\n'))
@@ -1051,12 +1067,14 @@ def test_full(tally, lup):
     message = 'lup: standard output cannot be written\n'
     with os.fdopen(os.open('/dev/full', os.O_WRONLY), 'wb') as full:
         for call in (('list', 'p.plan'), ('list', '--dot', 'p.plan'), ('check', 'p.plan'), ('lookup', 'p.plan', '0', '0'), ('show', 'a.field'),
-                     ('--help',), ('--version',),
+                     ('unpack', 'p.plan'), ('unpack', 'p.plan', '-o', '-'), ('pack', 't.table', '-o', '-'), ('--help',), ('--version',),
                      ('run', '--help')):
             tally.same((call, 'no output'), lup.run(*call, stdout=full), (2, '', message))
         tally.same('where the missing cannot be told', lup.run('run', 'p.plan', 'gone.field', '-o', 'out.field', stderr=full), (2, '', ''))
         tally.same('nothing is written', lup.files() == before, True)
         tally.same('a report that is lost', lup.run('run', 'p.plan', 'a.field', '-o', 'out.field', stdout=full), (2, '', message))
+        tally.same('what is told is lost', lup.run('pack', 't.table', '-o', 'out.plan', stdout=full), (2, '', message))
+    os.remove(lup.at('out.plan'))
 
 
 # ------------------------------------------------- how files are replaced
@@ -1070,7 +1088,7 @@ def left_over(lup):
 
 
 WRITING = (('run', 'p.plan', 'a.field', '-o', 'n.out'), ('run', 'p.plan', 'a.field', '-o', 'n.field', '--report', 'n.out'),
-           ('show', 'a.field', '--svg', 'n.out'))
+           ('show', 'a.field', '--svg', 'n.out'), ('pack', 't.table', '-o', 'n.out'), ('unpack', 'p.plan', '-o', 'n.out'))
 
 
 def test_modes(tally, lup):
@@ -1199,7 +1217,7 @@ def failing(call, descriptor, code):
 def test_synced(tally, lup):
     """The file and after it its folder are brought to the disk; a folder that cannot be is told, unless its file system has no such call."""
     message = 'lup: n.out: it is written, and its folder cannot be brought to the disk: Input/output error\n'
-    for call in (WRITING[0], WRITING[2]):
+    for call in (WRITING[0], *WRITING[2:]):
         for descriptor, code, wanted in ((3, errno.EIO, (2, '', message)), (3, errno.EINVAL, (0, None, '')),
                                          (4, errno.EIO, (2, '', 'lup: n.out: it cannot be written: Input/output error\n'))):
             lup.put('n.out', OLD)
@@ -1239,12 +1257,13 @@ def test_standard_input(tally, lup):
     lup.put('p.plan', plan)
     lup.put('a.field', field)
     for call in (('list', 'p.plan'), ('list', '--dot', 'p.plan'), ('check', 'p.plan'), ('lookup', 'p.plan', '1', '1'), ('lookup', 'p.plan', '1', '0'),
-                 ('run', 'p.plan', 'a.field', '-o', 'x.out'), ('show', 'a.field')):
-        for name, data in (('p.plan', plan), ('a.field', field)):
+                 ('run', 'p.plan', 'a.field', '-o', 'x.out'), ('show', 'a.field'), ('pack', 't.table', '-o', 'x.out'), ('unpack', 'p.plan'),
+                 ('unpack', 'p.plan', '-o', 'x.out')):
+        for name, data in (('p.plan', plan), ('a.field', field), ('t.table', TABLE)):
             if name in call:
                 with tally.case(('from standard input', call, name)):
-                    wanted = lup.run(*call)[:2] + (lup.get('x.out') if call[0] == 'run' else b'',)
-                    got = piped(lup, data, *('-' if word == name else word for word in call))[:2] + (lup.get('x.out') if call[0] == 'run' else b'',)
+                    wanted = lup.run(*call)[:2] + (lup.get('x.out') if 'x.out' in call else b'',)
+                    got = piped(lup, data, *('-' if word == name else word for word in call))[:2] + (lup.get('x.out') if 'x.out' in call else b'',)
                     tally.same('the same as from a file', got, (wanted[0], wanted[1].replace('a.field,', '-,'), wanted[2]))
     tally.same('a refusal', piped(lup, b'\1\0\4', 'check', '-'), (1, '', refusal_text('-', b'\1\0\4')))
     tally.same('no field', piped(lup, field[:-1], 'show', '-'), (2, '', 'lup: -: not a field: it ends inside its flags, 1 bytes short\n'))
@@ -1278,6 +1297,10 @@ def test_standard_output(tally, lup):
     with tally.case('a picture'):
         lup.run('show', 'a.field', '--svg', 'x.out')
         tally.same('a picture', code(lup.run('show', 'a.field', '--svg', '-')), (0, lup.get('x.out'), 'written: -, 1 of 2 cells are gaps\n'))
+    with tally.case('a plan and a table'):
+        tally.same('a plan', code(lup.run('pack', 't.table', '-o', '-')), (0, pack(PADDED), PACKED.format('-')))
+        tally.same('a table', code(lup.run('unpack', 'p.plan', '-o', '-')), (0, TABLE, 'written: -, 2 nodes\n'))
+        tally.same('a table that is not named', code(lup.run('unpack', 'p.plan')), (0, TABLE, ''))
     with tally.case('a file of that name'):
         tally.same('a file of that name', lup.run(*run, './-'), (0, told.format('./-'), ''))
         tally.same('its field', lup.get('-'), field)
@@ -1288,6 +1311,9 @@ def test_standard_output(tally, lup):
     for name, call, words in (('a.field', (*run, '-'), 'lup: a.field: it is to be read'), ('p.plan', (*run, '-'), 'lup: p.plan: it is to be read'),
                               ('a.field', (*run, 'x.out', '--report', '-'), 'lup: a.field: it is to be read'),
                               ('a.field', ('show', 'a.field', '--svg', '-'), 'lup: a.field: it is to be read'),
+                              ('t.table', ('pack', 't.table', '-o', '-'), 'lup: t.table: it is to be read'),
+                              ('p.plan', ('unpack', 'p.plan'), 'lup: p.plan: it is to be read'),
+                              ('p.plan', ('unpack', 'p.plan', '-o', '-'), 'lup: p.plan: it is to be read'),
                               ('b.field', (*run, 'b.field', '--report', '-'), 'lup: -: the field and the report are one file'),
                               ('b.field', (*run, '-', '--report', 'b.field'), 'lup: b.field: the field and the report are one file')):
         with open(lup.at(name), 'ab') as file, tally.case(('standard output is that file', call)):
@@ -1306,10 +1332,12 @@ def test_lost_streams(tally, lup):
     before, run = lup.files(), ('run', 'p.plan', 'a.field', '-o', '-', '--report', 'r.json')
     wanted = (2, '', 'lup: standard output cannot be written\n')
     with os.fdopen(os.open('/dev/full', os.O_WRONLY), 'wb') as full:
-        for call in (run, ('run', 'p.plan', 'a.field', '-o', 'r.field', '--report', '-'), ('show', 'a.field', '--svg', '-')):
+        for call in (run, ('run', 'p.plan', 'a.field', '-o', 'r.field', '--report', '-'), ('show', 'a.field', '--svg', '-'),
+                     ('pack', 't.table', '-o', '-'), ('unpack', 'p.plan')):
             tally.same(('full', call), lup.run(*call, stdout=full), wanted)
     tally.same('closed', lup.run(*run, preexec_fn=close_both), wanted)
-    tally.same('closed, and read', lup.run('check', '-', preexec_fn=close_both), (2, '', 'lup: -: the plan cannot be read: Bad file descriptor\n'))
+    for call, what in (('check', '-'), 'plan'), (('unpack', '-'), 'plan'), (('pack', '-', '-o', 'x.out'), 'table'):
+        tally.same(('closed, and read', call), lup.run(*call, preexec_fn=close_both), (2, '', f'lup: -: the {what} cannot be read: Bad file descriptor\n'))
     ends = os.pipe()
     os.close(ends[0])
     tally.same('read by nobody', lup.run(*run, stdout=ends[1])[0], -signal.SIGPIPE)
@@ -1346,6 +1374,8 @@ def test_broken_input(tally, lup):
     """An error after the last byte is no end: whole fields and plans that cannot be read to their end are not taken."""
     before = lup.files()
     for call, data, words in ((('show', '-'), field_bytes((2,), [7, 9]), 'it'), (('check', '-'), pack(PADDED), 'the plan'),
+                              (('unpack', '-'), pack(PADDED), 'the plan'), (('pack', '-', '-o', 'x.out'), TABLE, 'the table'),
+                              (('pack', '-', '-o', 'x.out'), TABLE + b'0 0', 'the table'), (('pack', '-', '-o', 'x.out'), b'', 'the table'),
                               (('run', 'p.plan', '-', '-o', 'x.out', '--missing', '9', '--damaged-as-gaps'), field_bytes((2,), [7, 9]), 'it'),
                               (('show', '-'), field_bytes((2,), [7, 9])[:-1], 'it'), (('show', '-'), b'', 'it'),
                               (('show', '-'), field_bytes((2,), [7, 9], (-9, 9)), 'it'), (('show', '-'), field_bytes((2,), [7, 9], (-9, 9))[:-1], 'it')):
@@ -1403,6 +1433,14 @@ MISUSE = [
 ]
 
 
+MISUSE += [
+    (('pack',), 'pack: wanted one TABLE, and 0 given'), (('pack', 't.table', 't.table', '-o', 'x'), 'and 2 given'),
+    (('pack', 't.table'), 'pack: -o PLAN is not given; see lup pack --help'), (('pack', 't.table', '-o'), 'pack: nothing follows -o'),
+    (('pack', 't.table', '-o', 'x', '-oy'), 'pack: -o is given twice'), (('pack', 't.table', '-o', ''), 'empty'), (('pack', '--node', '1'), 'no option --node'),
+    (('pack', '', '-o', 'x'), 'lup: : the table cannot be opened'), (('pack', '-1', '-o', 'x'), 'pack: there is no option -1'),
+    (('unpack',), 'unpack: wanted one PLAN, and 0 given'), (('unpack', 'p.plan', 'x'), 'and 2 given'), (('unpack', 'p.plan', '-o'), 'nothing follows -o'),
+    (('unpack', 'p.plan', '-ox', '-ox'), 'unpack: -o is given twice'), (('unpack', 'p.plan', '-o', ''), 'empty'), (('unpack', '--back', 'x'), 'no option --back'),
+]
 # Beginnings of names, values where none is taken, options joined to others.
 MISUSE += [
     *(((*RUN, word), f'run: there is no option {name}; see lup run --help') for word, name in (
@@ -1554,7 +1592,7 @@ def test_damaged_cells(tally, lup, rng, count):
 WORDS = (*COMMANDS, '--help', '-h', '--dot', '--svg', '--png', '--low', '--high', '--title', '--unit', '--node', '--node=0', '--nod', '--missing',
          '-oout.field', '--damaged-as-gaps', '--report', '-o', '--', '-', '', '0', '1', '3', '99', '-1',
          '18446744073709551615', '18446744073709551616', '%s%n', 'x' * 5000, 'p.plan', 'join.plan', 'bad.plan', 'a.field', 'b.field', 'six.field',
-         'none.field', 'out.field', 'out.svg', 'r.json', 'sub', 'sub/x', 'a.field/', '.', '\xff')
+         'none.field', 'out.field', 'out.svg', 'r.json', 'sub', 'sub/x', 'a.field/', '.', '\xff', 't.table', 'bad.table')
 
 
 def random_call(rng):
@@ -1564,7 +1602,9 @@ def random_call(rng):
     call = list(rng.choice((('list', 'p.plan', '--dot'), ('check', 'p.plan'), ('run', 'p.plan', 'a.field', '-o', 'out.field'),
                             ('run', 'join.plan', 'a.field', 'none.field', '-o', 'out.field', '--node', '1'),
                             ('run', 'join.plan', 'six.field', 'a.field', '-o', 'out.field', '--damaged-as-gaps', '--missing', '1', '--report', 'r.json'),
-                            ('lookup', 'p.plan', '1', '3'), ('show', 'a.field'), ('show', 'six.field', '--svg', 'out.svg'), ('show', 'six.field', '--low', '3', '--high', '99'), ('show', 'six.field', '--png', 'out.png'))))
+                            ('lookup', 'p.plan', '1', '3'), ('show', 'a.field'), ('show', 'six.field', '--svg', 'out.svg'), ('show', 'six.field', '--low', '3', '--high', '99'), ('show', 'six.field', '--png', 'out.png'),
+                            ('pack', 't.table', '-o', 'out.plan'), ('pack', 'bad.table', '-o', 'out.plan'), ('unpack', 'p.plan', '-o', 'out.table'),
+                            ('unpack', 'p.plan'))))
     for _ in range(rng.randint(0, 2)):
         way, at = rng.randrange(3), rng.randrange(len(call) + 1)
         if way == 0:
@@ -1579,7 +1619,8 @@ def random_call(rng):
 def test_random_calls(tally, lup, rng, count):
     """Any words: an exit status with or without a message, and no file but one that is told as written."""
     files = {'p.plan': pack(PADDED), 'join.plan': pack(PAIR + param(1, I16, -9, 9, (2,)) + apply(ADD, 0, 1)), 'bad.plan': b'\1\0\4',
-             'a.field': field_bytes((2,), [7, None]), 'b.field': field_bytes((2,), [50, 0]), 'six.field': field_bytes((2, 3), [1, 2, None, 4, 5, 6])}
+             'a.field': field_bytes((2,), [7, None]), 'b.field': field_bytes((2,), [50, 0]), 'six.field': field_bytes((2, 3), [1, 2, None, 4, 5, 6]),
+             't.table': TABLE, 'bad.table': TABLE.replace(b'6 0', b'21 0')}
     met = set()
     os.mkdir(lup.at('sub'))
     for name in os.listdir(lup.folder):
@@ -1599,14 +1640,14 @@ def test_random_calls(tally, lup, rng, count):
             rest = errors[len(absent):len(errors) - len(told)]
             tally.holds(('status', call), {0: absent + rest == '', 1: rest.startswith('lup: '), 2: rest.startswith('lup: '),
                                            3: absent and rest == ''}.get(status), (status, errors))
-            written = re.findall(r'^written: (.*?), (?:node|\d+ of|the report)', told or text, re.M)
+            written = re.findall(r'^written: (.*?), (?:node|\d+ of|\d+ nodes|the report)', told or text, re.M)
             new = [os.path.relpath(path, lup.folder) for path in after if path not in before or before[path] != after[path]]
             tally.holds(('what is written', call), set(before) <= set(after) and all(os.path.normpath(name) in map(os.path.normpath, written) for name in new)
                         and bool(written) <= (status in (0, 3)), (new, written))
         met.add((call[0] if call else '', status))
         for name in new:
             os.remove(lup.at(name))
-    wanted = {('run', 1), ('run', 3), *((name, status) for name in COMMANDS for status in (0, 2))}
+    wanted = {('run', 1), ('run', 3), ('pack', 1), *((name, status) for name in COMMANDS for status in (0, 2))}
     tally.holds('every command is done, refused and misused', count < 300 or met >= wanted, met)
 
 

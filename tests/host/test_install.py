@@ -23,7 +23,7 @@ import lupasm  # noqa: E402
 from counting import Cases  # noqa: E402
 
 STRICT = '-std=c99', '-Wall', '-Wextra', '-Wpedantic', '-Werror'
-COMMANDS = 'list', 'check', 'run', 'lookup', 'show'
+COMMANDS = 'list', 'check', 'run', 'lookup', 'show', 'pack', 'unpack'
 CLEAN = {key: value for key, value in os.environ.items()
          if not key.startswith(('PYTHON', 'LUPETZARIN', 'PKG_CONFIG', 'LD_', 'PIP_', 'MAKE', 'MFLAGS', 'MAN', 'DESTDIR', 'PREFIX', 'VIRTUAL_ENV'))}
 CLEAN.update(PYTHONDONTWRITEBYTECODE='1', LC_ALL='C.UTF-8', PIP_CONFIG_FILE=os.devnull, PIP_NO_INDEX='1', PIP_DISABLE_PIP_VERSION_CHECK='1')
@@ -194,6 +194,9 @@ def test_shared(tally, place):
     exported = [name for kind, name in symbols if kind not in 'AUw']
     tally.same('exports', sorted(exported), sorted(f'{call}@@{node}' for node, calls in versioned().items() for call in calls))
     tally.same('calls', sorted(name.partition('@')[0] for name in exported), declared())
+    parents = re.findall(r'Name: (\S+)\n(?:.*Parent 1: (\S+)\n)?', told('readelf', '-VW', shared).split('Version needs')[0])
+    nodes = list(versioned())
+    tally.same('each version has those before', [pair for pair in parents if pair[0] in nodes], list(zip(nodes, ['', *nodes])))
     tally.same('calls of version 4.0', [name for name in FIRST_CALLS if f'{name}@@LUPETZARIN_4.0' not in exported], [])
     tally.same('versions', [name.partition('@')[0] for kind, name in symbols if kind == 'A'], list(versioned()))
     tally.same('wanted of the C library', sorted(name.partition('@')[0] for kind, name in symbols if kind == 'U'), ['memcpy', 'memset'])
@@ -204,6 +207,7 @@ def test_shared(tally, place):
 PROGRAM = r"""
 #include <lupetzarin.h>
 #include <stdio.h>
+#include <string.h>
 int main(void) {
     static int64_t table[LUP_MOST_NODES * LUP_NODE_WORDS], derived[LUP_MOST_NODES * LUP_DERIVED_WORDS];
     static const uint8_t bytes[] = {BYTES};
@@ -211,6 +215,9 @@ int main(void) {
     uint8_t flags[] = {1, 0}, known[6];
     lup_answer a = lup_unpack(bytes, sizeof bytes, table, LUP_MOST_NODES * LUP_NODE_WORDS);
     size_t words = (size_t)a.count * LUP_NODE_WORDS;
+    uint8_t packed[sizeof bytes + 1];
+    lup_answer p = lup_pack(table, words, packed, sizeof packed);
+    if (p.number != LUP_ACCEPTED || p.count != sizeof bytes || memcmp(packed, bytes, sizeof bytes) != 0) return 3;
     if (lup_version() != LUP_VERSION || lup_check(table, words, derived, LUP_MOST_NODES * LUP_DERIVED_WORDS).number != LUP_ACCEPTED) return 1;
     if (lup_unpack_check(bytes, sizeof bytes) != a.count) return 2;
     a = lup_run(table, words, values, 2, flags, 2, out, 6, known, 6);
@@ -243,6 +250,8 @@ def test_programs_in_c(tally, folder, place):
             program, how = os.path.join(folder, name), ['-static'] if static else []
             tally.same('compiled', ran('gcc', *STRICT, *how, '-o', program, source, *flags), (0, '', ''))
             tally.same('needs the object', f'[liblupetzarin.so.{major()}]' in told('readelf', '-dW', program), not static)
+            tally.same('needs the versions of its calls', sorted(set(re.findall(r'Name: (LUPETZARIN_\S+)', told('readelf', '-VW', program)))),
+                       [] if static else list(versioned()))
             tally.same('says', ran(program, more={} if static else {'LD_LIBRARY_PATH': f'{where}/lib'}), (0, said, ''))
             tally.same('without the object', ran(program)[0] == 0, static)
     other = told('pkg-config', '--libs', 'lupetzarin', more={'PKG_CONFIG_LIBDIR': f'{place}-32/lib/x86_64-linux-gnu/pkgconfig'}).split()
@@ -263,6 +272,9 @@ def test_programs(tally, folder, place):
     tally.same('lup list', ran(lup, 'list', 'small.plan', **how), (0, LISTING, ''))
     with open(plan, 'rb') as file:
         tally.same('lup-list', ran(lister, stdin=file, **how), (0, LISTING, ''))
+    text = '1 0 0 0 2 0 1 -9 9 2 0 0 0 0 0 0 0\n6 0 0 0 0 0 0 0 0 4 0 0 0 1 0 0 0\n'
+    tally.same('lup unpack', ran(lup, 'unpack', 'small.plan', **how), (0, text, ''))
+    tally.same('lup pack', ran(lup, 'pack', '-', '-o', 'small.plan', input=text, **how), (0, 'written: small.plan, 2 nodes in 21 bytes\n', ''))
     back = 'n0 = param i16 -9..9 2 device 1\nn1 = pad n0 4 at 1\n'
     tally.same('lupasm --back', ran(asm, '--back', plan, **how), (0, back, ''))
     link = os.path.join(folder, 'work', 'linked')
@@ -425,14 +437,16 @@ def test_wheel(tally, folder):
     tally.same('no wheel', os.path.isdir(f'{folder}/none') and os.listdir(f'{folder}/none'), [])
 
 
-STUB = 'unsigned long lup_version(void) { return %d; }\n' + ''.join(f'void {name}(void) {{}}\n' for name in FIRST_CALLS if name != 'lup_version')
+def stub_of(calls):
+    """C of these calls; lup_version answers the number that is put in."""
+    return 'unsigned long lup_version(void) { return %d; }\n' + ''.join(f'void {name}(void) {{}}\n' for name in calls if name != 'lup_version')
 
 
 def stub(folder, number, *parts):
-    """A shared object of those names whose lup_version answers the number."""
+    """A shared object of a library of that version, which is what its lup_version answers; one before 4.1 has the first calls alone."""
     path = os.path.join(folder, *parts)
     os.makedirs(os.path.dirname(path), exist_ok=True)
-    told('gcc', '-w', '-shared', '-o', path, put(STUB % number, folder, 'stub.c'))
+    told('gcc', '-w', '-shared', '-o', path, put(stub_of(FIRST_CALLS if number < 4001000 else declared()) % number, folder, 'stub.c'))
     return path
 
 
@@ -443,22 +457,24 @@ def imported(tree, **more):
 
 
 def test_search(tally, folder):
-    """Which library the module takes, each by a number of its own; one of another major version, and one without a version, is refused."""
+    """Which library the module takes, each by a number of its own; one of another major version or of an older minor one, and one without a version, is
+    refused."""
     tree, own = pip_tree(folder, 'search'), number_of(version())
-    first = int(major()) * 1000000
-    named = {'LUPETZARIN_LIBRARY': stub(tree, first + 1, 'named.so')}
-    loader = {'LD_LIBRARY_PATH': os.path.dirname(stub(tree, first + 4, 'loader', f'liblupetzarin.so.{major()}'))}
-    beside, in_build = stub(tree, first + 2, 'python', 'liblupetzarin.so'), stub(tree, first + 999003, 'build', 'liblupetzarin.so')
-    tally.same('named', imported(tree, **named, **loader), first + 1)
-    tally.same('beside the module', imported(tree, **loader), first + 2)
-    tally.same('an empty name is none', imported(tree, LUPETZARIN_LIBRARY='', **loader), first + 2)
+    first, least = int(major()) * 1000000, own // 1000 * 1000
+    named = {'LUPETZARIN_LIBRARY': stub(tree, least + 1, 'named.so')}
+    loader = {'LD_LIBRARY_PATH': os.path.dirname(stub(tree, least + 4, 'loader', f'liblupetzarin.so.{major()}'))}
+    beside, in_build = stub(tree, least, 'python', 'liblupetzarin.so'), stub(tree, first + 999003, 'build', 'liblupetzarin.so')
+    tally.same('named', imported(tree, **named, **loader), least + 1)
+    tally.same('beside the module', imported(tree, **loader), least)
+    tally.same('an empty name is none', imported(tree, LUPETZARIN_LIBRARY='', **loader), least)
     os.remove(beside)
     tally.same('in the checkout', imported(tree, **loader), first + 999003)
     os.remove(in_build)
-    tally.same('by the loader', imported(tree, **loader), first + 4)
+    tally.same('by the loader', imported(tree, **loader), least + 4)
     cannot = f"ImportError: lupetzarin: the library 'liblupetzarin.so.{major()}' cannot be loaded: "
     tally.same('nowhere', imported(tree)[:len(cannot)], cannot)
-    for number, text in ((first + 1000000, f'{int(major()) + 1}.0.0'), (first - 1, f'{int(major()) - 1}.999.999'), (5002003, '5.2.3'), (0, '0.0.0')):
+    for number, text in ((first + 1000000, f'{int(major()) + 1}.0.0'), (first - 1, f'{int(major()) - 1}.999.999'), (5002003, '5.2.3'), (0, '0.0.0'),
+                         (4000000, '4.0.0'), (4000999, '4.0.999')):
         path = stub(tree, number, 'other.so')
         tally.same(text, imported(tree, LUPETZARIN_LIBRARY=path), f"ImportError: lupetzarin: the library '{path}' is version {text}, and this module is {version()}")
     tally.holds('no version', 'lup_version' in str(imported(tree, LUPETZARIN_LIBRARY='libc.so.6')), own)

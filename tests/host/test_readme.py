@@ -125,7 +125,10 @@ def test_picture(tally, page):
 
 # --------------------------------------------------------------- the program
 
-WORDS = {'PLAN': 'small.plan', 'INPUT...': 'wind.field', 'FIELD': 'wide.field', 'N': '1', 'NODE': '1', 'ELEMENT': '2', 'FILE': 'out.file', 'TEXT': 'words'}
+WORDS = {'PLAN': 'small.plan', 'INPUT...': 'wind.field', 'FIELD': 'wide.field', 'N': '1', 'NODE': '1', 'ELEMENT': '2', 'FILE': 'out.file', 'TEXT': 'words',
+         'TABLE': 'small.table'}
+# What a command writes has another name.
+WRITTEN = {'run': {'FIELD': 'new.field'}, 'pack': {'PLAN': 'new.plan'}, 'unpack': {'TABLE': 'new.table'}}
 
 
 def test_usage(tally, page, shell):
@@ -136,10 +139,12 @@ def test_usage(tally, page, shell):
     shell.type('python3 host/lupasm.py demo/small.lup -o small.plan')
     shell.put('wind.field', b'LUPFIELD' + (1).to_bytes(8, 'little') + (2).to_bytes(8, 'little') + bytes(16) + b'\1\0')
     shell.type('build/lup run small.plan wind.field -o wide.field')
+    shell.type('build/lup unpack small.plan >small.table')
     for form in forms:
-        for call in calls_of(form, {**WORDS, **({'FIELD': 'new.field'} if ' run ' in form else {})}):
+        for call in calls_of(form, {**WORDS, **WRITTEN.get(form.split()[1], {})}):
             status, _, errors = shell.type(call)
             tally.same(call, (status, errors), (0, ''))
+    tally.same('packed and unpacked', (shell.get('new.plan'), shell.get('new.table')), (shell.get('small.plan'), shell.get('small.table')))
     for line in re.findall(r'`(build/lup (?:COMMAND )?--\w+)`', page.text):
         tally.same(line, shell.type(line.replace('COMMAND', 'run'))[0], 0)
 
@@ -157,13 +162,20 @@ def test_refusal(tally, page, shell):
     tally.holds('of a text the second line says to assemble it', len(second) == 1 and 'assemble it first' in second[0], second)
 
 
-def test_session(tally, page, shell):
-    """The shell's session: after each line what it writes."""
-    session = re.findall(r'^\$ (.*)\n((?:(?!\$ ).*\n)*)', page.take('$ cat'), re.M)
-    tally.same('lines that are typed', len(session), 3)
+def typed(tally, shell, block, count):
+    """A session of the shell of so many lines: after each what it writes, which is given back."""
+    session = re.findall(r'^\$ (.*)\n((?:(?!\$ ).*\n)*)', block, re.M)
+    tally.same('lines that are typed', len(session), count)
     for command, output in session:
         tally.same(command, shell.type(command), (0, output, ''))
-    tally.same('build/list', shell.type('build/list <small.plan'), (0, session[-1][1], ''))
+    return [output for _, output in session]
+
+
+def test_sessions(tally, page, shell):
+    """The two sessions of the shell."""
+    listing = typed(tally, shell, page.take('$ cat'), 3)[-1]
+    tally.same('build/list', shell.type('build/list <small.plan'), (0, listing, ''))
+    typed(tally, shell, page.take('$ build/lup unpack'), 3)
 
 
 def test_assembler(tally, page, shell):
@@ -291,7 +303,7 @@ def main():
     tally, page = Cases(), Readme(read('README.md'))
     with tempfile.TemporaryDirectory() as folder:
         shell = Checkout(folder)
-        for test in (test_commands, test_usage, test_refusal, test_session, test_assembler, test_installing, test_calls, test_run, test_python):
+        for test in (test_commands, test_usage, test_refusal, test_sessions, test_assembler, test_installing, test_calls, test_run, test_python):
             test(tally, page, shell)
     tally.same('every block is tested', page.blocks, [])
     tally.finish()

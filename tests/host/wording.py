@@ -31,6 +31,13 @@ RULES = {
     23: 'node count not 1..256',
     24: 'operation not 0..20',
 }
+# The refusals of a table that is to be packed; 14 is the program's own room.
+TABLE_RULES = {
+    1: 'length no multiple of 17, or not 1..256 nodes',
+    2: 'operation not 0..20',
+    3: 'unused word not zero',
+    25: 'a used word not in -17179869184..17179869183',
+}
 # What rule 7 asks of each operation.
 ROWS = {
     'PARAM': 'slot not its turn or over 15, low above high, device not 1..255, or no shape',

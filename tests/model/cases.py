@@ -39,17 +39,22 @@ def fresh_flags(room):
     return [2 + k % 200 for k in range(room)]
 
 
+# What the buffers of a call hold before it, those that it can write.
+FRESH = {'run': (fresh_words, fresh_flags), 'unpack': (fresh_words,), 'check': (fresh_words,), 'pack': (fresh_flags,)}
+
+
+def fresh_buffers(case):
+    """The buffers by their rooms, which end the arguments."""
+    makers = FRESH.get(case.call, ())
+    rooms = case.args[len(case.args) - len(makers):]
+    return tuple(make(room) for make, room in zip(makers, rooms))
+
+
 def expected(case):
     """The model's answer, and the buffers that the call can write, afterwards."""
-    if case.call == 'run':
-        *inputs, value_room, flag_room = case.args
-        buffers = (fresh_words(value_room), fresh_flags(flag_room))
-        return model.run(*inputs, *buffers), buffers
-    if case.call in ('unpack', 'check'):
-        source, room = case.args
-        buffers = (fresh_words(room),)
-        return getattr(model, case.call)(source, *buffers), buffers
-    return getattr(model, case.call)(*case.args), ()
+    buffers = fresh_buffers(case)
+    inputs = case.args[:len(case.args) - len(buffers)]
+    return getattr(model, case.call)(*inputs, *buffers), buffers
 
 
 # ------------------------------------------------------------ writing nodes
@@ -79,6 +84,10 @@ def move(op, source, row_a, row_b=()):
 
 def apply(op, *sources):
     return node(op, row(1, sources))
+
+
+def load(source, device):
+    return node(LOAD, {1: source, 6: device})
 
 
 def reduce_node(source, number, flags):
@@ -193,7 +202,7 @@ def propose(rng, plan, op, base):
     if op == CAST:
         return node(CAST, {1: pick, 4: dtype})
     if op == LOAD:
-        return node(LOAD, {1: pick, 6: rng.choice((1, 2, 128, 255))})
+        return load(pick, rng.choice((1, 2, 128, 255)))
     if op == REDUCE:
         return reduce_node(pick, rng.randint(0, 1), random_row(rng, op, source.extents)[0])
     if PERMUTE <= op <= SHRINK:
@@ -640,7 +649,7 @@ def packed_plans(count, seed):
     fit = [t for t in tables if all(t[k] >= 0 for k in range(0, len(t), 17))]
     for table in rng.sample(fit, min(max(0, count - 3), len(fit))) + [const(1, 9) * 256]:
         yield Case('unpack_check', (pack(table),), 'packed table')
-    late = node(LOAD, {1: 255, 6: 1})
+    late = load(255, 1)
     yield Case('unpack_check', (pack(const(1, 9) * 255 + late),), 'last of 256 refused')
     yield Case('unpack_check', (pack(large(*[(LARGE,)] * 4) + const(0, 1)),), 'over in all')
 
@@ -661,7 +670,7 @@ def movement_plan(rng, op):
             if step == CAST:
                 plan.add(node(CAST, {1: source, 4: rng.choice((2, 3))}))
             elif step == LOAD:
-                plan.add(node(LOAD, {1: source, 6: rng.randint(1, 255)}))
+                plan.add(load(source, rng.randint(1, 255)))
             else:
                 rows = random_row(rng, step, plan.records[source].extents)
                 plan.add(move(step, source, *rows))
@@ -751,7 +760,7 @@ def device_tables():
     table = const(0, 1) + const(2, 5) + param(0, 0, 0, 1, (), 7) + param(1, 2, 0, 1, (), 7)
     table += apply(ADD, 1, 3) + apply(ADD, 3, 1) + apply(ADD, 1, 1) + apply(WHERE, 0, 1, 3)
     table += apply(WHERE, 0, 3, 1) + apply(WHERE, 2, 1, 1) + apply(WHERE, 0, 1, 1)
-    yield table + node(LOAD, {1: 1, 6: 255}) + node(LOAD, {1: 3, 6: 1})
+    yield table + load(1, 255) + load(3, 1)
 
 
 def interval_params(dtype, intervals):
@@ -936,7 +945,7 @@ def movement_runs():
     yield hand_run(table, [1, 2, 3, None, 5, 6])
     table = param(0, 2, 0, 9, (1, 3)) + param(1, 2, 0, 9, (2, 1)) + move(EXPAND, 0, (2, 3))
     table += move(EXPAND, 1, (2, 3)) + move(RESHAPE, 3, (3, 2)) + node(CAST, {1: 4, 4: 3})
-    yield hand_run(table + node(LOAD, {1: 5, 6: 9}), [1, None, 3, 4, 5])
+    yield hand_run(table + load(5, 9), [1, None, 3, 4, 5])
 
 
 def axis_lookups():
@@ -964,12 +973,122 @@ def hand_lookups():
 
 def hand_cases(count, seed):
     rng = Random(f'by hand {seed}')
-    table = []
-    for op in range(21):
-        table += node(op, {w: (7 * op + w) * (-1) ** w for w in model.USED_WORDS[op]})
+    table = sum((small_node(op) for op in range(21)), [])
     several = [Case('unpack', (pack(table), len(table)), 'every operation'), *elementwise_runs(),
                *movement_runs(), *hand_checks(), *rank_runs(), *single_runs(), *axis_runs(), *hand_lookups()]
     yield from chosen(rng, several, count, lambda case: case.call)
+
+
+# ---------------------------------------------------------- tables to pack
+
+# The words around 0, and the ends of those that are written in one to five bytes.
+PACKED_ENDS = (0, 1, -1, 63, 64, -64, -65, 8191, 8192, -8192, -8193, LARGE - 1, LARGE, -LARGE, -LARGE - 1,
+               2 ** 27 - 1, 2 ** 27, -2 ** 27, -2 ** 27 - 1, model.LEAST_WORD, model.GREATEST_WORD)
+BEYOND = (model.LEAST_WORD - 1, model.GREATEST_WORD + 1, -BIG, BIG - 1)
+UNUSED_WORDS = [[w for w in range(1, 17) if w not in used] for used in model.USED_WORDS]
+
+
+def small_node(op):
+    """A node of the operation whose used words all differ and are not 0."""
+    return node(op, {w: (7 * op + w) * (-1) ** w for w in model.USED_WORDS[op]})
+
+
+def set_node(op, word, value):
+    """The same with one word set."""
+    return [value if k == word else old for k, old in enumerate(small_node(op))]
+
+
+def to_pack(table, more, note):
+    """A table with a room so many bytes beside what it takes; where it is refused, beside six."""
+    size = 6 if model.pack_refusal(table)[0] else len(pack(table))
+    return Case('pack', (table, max(0, size + more)), f'pack: {note}')
+
+
+def packed_words():
+    """Every used word at each end; each operation alone with each room."""
+    for op, used in enumerate(model.USED_WORDS):
+        table = []
+        for turn in range(len(PACKED_ENDS)):
+            table += node(op, {w: PACKED_ENDS[(turn + k) % len(PACKED_ENDS)] for k, w in enumerate(used)})
+        yield to_pack(table, op % 3, f'ends, op {op}')
+        yield from (to_pack(small_node(op), more, f'room {more}, op {op}') for more in (0, -1, 4))
+        yield Case('pack', (small_node(op), 0), f'pack: no room, op {op}')
+    every = sum((small_node(op) for op in range(21)), [])
+    yield from (to_pack(every, more, f'room {more}, every operation') for more in (0, -1, 1))
+
+
+def refused_words():
+    """Every unused word not zero, every used word out of range, operations that are none, after up to two nodes."""
+    odd = (1, -1, BIG - 1, -BIG, 2 ** 35)
+    for op, used in enumerate(model.USED_WORDS):
+        for turn, word in enumerate(UNUSED_WORDS[op]):
+            before = small_node(turn) * (turn % 3)
+            yield to_pack(before + set_node(op, word, odd[(op + turn) % 5]), 0, f'word {word} unused, op {op}')
+        for turn in range(max(4, len(used))):
+            before = small_node(turn) * (turn % 3)
+            node_of = set_node(op, used[turn % len(used)], BEYOND[(turn + turn // 4) % 4])
+            yield to_pack(before + node_of, 40, f'out of range, op {op}')
+    for turn, op in enumerate((-1, 21, BIG - 1, -BIG, 2 ** 32)):
+        for nodes in (0, 1 + turn % 2):
+            yield to_pack(const(1, 9) * nodes + node(op), 40, f'operation {op}')
+
+
+def packed_lengths():
+    """Lengths that are no plan, and the most nodes."""
+    for length in (0, 1, 16, 17, 18, 33, 17 * 256 - 1, 17 * 256, 17 * 256 + 1, 17 * 257):
+        yield to_pack((const(2, -9) * 257)[:length], 1, f'{length} words')
+    yield Case('pack', ([], 0), 'pack: no words, no room')
+    yield to_pack(const(2, -9) * 256, -1, '256 nodes, one byte short')
+    yield to_pack(const(2, -9) * 255 + node(21), 0, 'the last of 256 nodes')
+    yield to_pack(const(2, -9) * 128, 0, '128 nodes')
+
+
+# Nodes by the refusal that each is due, some due two of them.
+PACK_BREAKS = {2: [node(21), node(-1, {4: 1, 5: BIG - 1}), node(21, dict.fromkeys(range(1, 17), -BIG))],
+               3: [set_node(CONST, 1, 1), set_node(ADD, 3, BIG - 1), node(CONST, {4: BIG - 1, 16: 1}),
+                   node(LOAD, {2: -1, 6: -BIG}), node(WHERE, {1: 2 ** 34, 2: 2 ** 34, 3: 2 ** 34, 4: 2 ** 34})],
+               25: [set_node(CONST, 4, BEYOND[0]), set_node(PAD, 16, BEYOND[1]), set_node(PARAM, 12, -BIG),
+                    set_node(WHERE, 3, BIG - 1)]}
+
+
+def packed_orders():
+    """Two and three refusals that are due together: within a node, of nodes in turn, with 1 and with 14."""
+    for number, nodes in PACK_BREAKS.items():
+        for broken in nodes:
+            yield Case('pack', (broken, 0), f'pack: {number} before 14')
+            yield to_pack(broken + [0], 0, f'1 before {number}')
+        for other, others in PACK_BREAKS.items():
+            if other != number:
+                yield to_pack(const(1, 9) + nodes[-1] + others[0], 30, f'{number} of a node before {other}')
+    yield Case('pack', ([5], 0), 'pack: 1 before 14')
+    yield to_pack(sum((nodes[0] for nodes in PACK_BREAKS.values()), []), 0, 'each in turn')
+    yield to_pack(sum((nodes[0] for nodes in reversed(PACK_BREAKS.values())), []), 0, 'each in turn, backwards')
+
+
+def packed_refused(rng):
+    """Tables that a check refuses by each of 4 to 12: no such rule is asked."""
+    every = [(rule, draft(op, DRAFTS[op][0], change)) for op in DRAFTS for rule, change in breaks_of(op)]
+    packable = [(rule, table) for rule, table in every if model.pack_refusal(table)[0] == 0]
+    for rule, table in chosen(rng, packable, 24, lambda item: item[0]):
+        yield to_pack(table, 2, f'rule {rule} is not asked')
+    yield to_pack(large(*[(LARGE,)] * 4) + const(0, 1), 2, 'rule 12 is not asked')
+
+
+def random_words(rng, op):
+    """Any words that a packed plan can hold in those that the operation uses."""
+    return node(op, {w: model.word_of(rng.getrandbits(rng.randint(1, 35))) for w in model.USED_WORDS[op]})
+
+
+def packs(count, seed):
+    rng = Random(f'packs {seed}')
+    several = [*packed_words(), *refused_words(), *packed_lengths(), *packed_orders(), *packed_refused(rng)]
+    for turn in range(40):
+        table = sum((random_words(rng, rng.randrange(21)) for _ in range(rng.randint(1, 6))), [])
+        if turn % 4 == 3:
+            table[rng.randrange(len(table))] = rng.choice((*BEYOND, 1, -1, 21))
+        several.append(to_pack(table, rng.choice((0, 0, -1, 3)), 'random'))
+    rng.shuffle(several)
+    yield from chosen(rng, several, count, lambda case: case.note)
 
 
 GROUPS = {
@@ -979,6 +1098,7 @@ GROUPS = {
     'buffers': (buffer_cases, 65), 'run inputs': (run_inputs, 100),
     'packed bytes': (packed_bytes, 190), 'packed plans': (packed_plans, 20),
     'lookups': (lookups, 108), 'listings': (listings, 30), 'by hand': (hand_cases, 320),
+    'packs': (packs, 700),
 }
 
 

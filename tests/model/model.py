@@ -1,8 +1,9 @@
 """The rules of the specification in plain Python, written from the papers alone.
 
-The quoted sentences are those of 01. Whole numbers are unbounded. A buffer
-is a list that a call changes in place; a refusal leaves it as it was. A
-field is a dict from coordinates to a number, or to None for a gap.
+The quoted sentences are those of 01; (02) stands before those of 02. Whole
+numbers are unbounded. A buffer is a list that a call changes in place; a
+refusal leaves it as it was. A field is a dict from coordinates to a number,
+or to None for a gap.
 """
 
 from collections import namedtuple
@@ -27,6 +28,8 @@ MOST_NODE_ELEMENTS = 1048576
 MOST_PLAN_ELEMENTS = 4194304
 # "reads up to 12288 bytes on standard input"
 MOST_LISTING_BYTES = 12288
+# (02) "whose used words lie in −17179869184..17179869183"
+LEAST_WORD, GREATEST_WORD = -17179869184, 17179869183
 
 # "Types: 0 bool (0..1), 1 u8 (0..255), 2 i16 (−32768..32767),
 #  3 i32 (−2147483648..2147483647)."
@@ -322,6 +325,12 @@ NODE_RULES = (
 )
 
 
+# 1 "length no multiple of 17, or not 1..256 nodes"
+def length_wrong(table):
+    nodes, rest = divmod(len(table), NODE_WORDS)
+    return rest != 0 or not 1 <= nodes <= MOST_NODES
+
+
 def node_words(table, position):
     return table[NODE_WORDS * position:NODE_WORDS * (position + 1)]
 
@@ -329,12 +338,11 @@ def node_words(table, position):
 # "Order: 1; nodes in turn, within a node 2 to 11 by number; 12"
 def verdict(table):
     """(0, records) of an accepted table, (number, place) of a refused one."""
-    nodes, rest = divmod(len(table), NODE_WORDS)
-    if rest or not 1 <= nodes <= MOST_NODES:
+    if length_wrong(table):
         return 1, 0
     records = []
     params = 0
-    for position in range(nodes):
+    for position in range(len(table) // NODE_WORDS):
         node = Node(node_words(table, position), records, params)
         for number, broken in NODE_RULES:
             if broken(node):
@@ -594,6 +602,69 @@ def unpack(data, table):
         return Answer(*refused.args, 0)
     table[:len(words)] = words
     return Answer(0, 0, count)
+
+
+# (02) "whose used words lie in −17179869184..17179869183"; "25 for a word outside
+#  that range (place: node)"
+def word_out_of_range(node):
+    return any(node.uses(w) and not LEAST_WORD <= node.words[w] <= GREATEST_WORD
+               for w in range(1, NODE_WORDS))
+
+
+# (02) "Refusals: 1; nodes in turn, 2, 3, then 25 for a word outside that range"
+PACK_RULES = ((2, operation_unknown), (3, unused_word_set), (25, word_out_of_range))
+
+
+def pack_refusal(table):
+    """(number, place) of the first rule that keeps a table from being packed, or (0, 0)."""
+    if length_wrong(table):
+        return 1, 0
+    for position in range(len(table) // NODE_WORDS):
+        node = Node(node_words(table, position), [], 0)
+        for number, broken in PACK_RULES:
+            if broken(node):
+                return number, position
+    return 0, 0
+
+
+# "Numbers are written in groups of seven bits, lowest first, the high bit of a
+#  byte set when more follow, shortest form"
+def written_number(number):
+    groups = [number % 128]
+    while number >= 128:
+        number //= 128
+        groups.append(number % 128)
+    return [group + 128 for group in groups[:-1]] + groups[-1:]
+
+
+# "other words n are written as 2n, or −2n−1 below zero"
+def number_of(word):
+    return 2 * word if word >= 0 else -2 * word - 1
+
+
+# "for each node its operation and its used words in rising order. Count and
+#  operation are plain"
+def written_node(words):
+    data = written_number(words[0])
+    for word in USED_WORDS[words[0]]:
+        data += written_number(number_of(words[word]))
+    return data
+
+
+# "A packed plan is the node count, then for each node .." (02) "a table in, packed
+#  bytes out." "The answer carries the length written." "then 14 for room"
+def pack(table, buffer):
+    number, place = pack_refusal(table)
+    if number:
+        return Answer(number, place, 0)
+    count = len(table) // NODE_WORDS
+    data = written_number(count)
+    for position in range(count):
+        data += written_node(node_words(table, position))
+    if len(buffer) < len(data):
+        return Answer(14, 0, 0)
+    buffer[:len(data)] = data
+    return Answer(0, 0, len(data))
 
 
 # "hands the packed bytes over, for unpack and check in one call" "The program and

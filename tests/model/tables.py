@@ -9,7 +9,7 @@ import sys
 
 sys.dont_write_bytecode = True
 
-from cases import all_cases, expected, fresh_flags, fresh_words
+from cases import FRESH, all_cases, expected, fresh_flags
 
 ROOT = os.path.dirname(os.path.dirname(os.path.dirname(os.path.abspath(__file__))))
 FOLDER = os.path.join(ROOT, 'crates', 'agreement', 'proofs')
@@ -89,7 +89,7 @@ def buffer_text(buffer, fresh, fresh_name, texts_of):
 # ------------------------------------------------------------ writing cases
 
 CALLS = {'unpack': 'toUnpack', 'check': 'toCheck', 'unpack_check': 'toUnpackCheck',
-         'run': 'toRun', 'lookup': 'toLookup', 'listing': 'toList'}
+         'run': 'toRun', 'lookup': 'toLookup', 'listing': 'toList', 'pack': 'toPack'}
 
 
 def call_text(case):
@@ -112,13 +112,14 @@ def result_text(case):
     if case.call == 'lookup':
         number, place, *found = answer
         return ' '.join([f'finds (answer {number} {place} 0)', *map(str, found)])
-    texts = ['leaves' if len(buffers) == 1 else 'leavesBoth', '(answer %d %d %d)' % answer]
-    texts_of = table_texts if case.call == 'unpack' else word_texts
-    fresh = fresh_words(len(buffers[0]))
-    texts.append(buffer_text(buffers[0], fresh, 'freshFrom', texts_of))
-    for flags in buffers[1:]:
-        fresh = fresh_flags(len(flags))
-        texts.append(buffer_text(flags, fresh, 'flagsFrom', lambda items: [listed(items)]))
+    kinds = {'run': 'leavesBoth', 'pack': 'leavesBytes'}
+    texts = [kinds.get(case.call, 'leaves'), '(answer %d %d %d)' % answer]
+    for buffer, make in zip(buffers, FRESH[case.call]):
+        if make is fresh_flags:
+            fresh_name, texts_of = 'flagsFrom', lambda items: [listed(items)]
+        else:
+            fresh_name, texts_of = 'freshFrom', table_texts if case.call == 'unpack' else word_texts
+        texts.append(buffer_text(buffer, make(len(buffer)), fresh_name, texts_of))
     return ' '.join(texts)
 
 
@@ -128,8 +129,7 @@ HEAD = '-- Written by tests/model/tables.py: change that script or cases.py, nev
 TABLE = HEAD + '''use mathlib.Core.Path.{{refl}}
 use mathlib.Core.List.{{List, [], _∷_, _++_}}
 use Rattle.guarantees.proofs.Everything.{{everything}}
-use Rattle.agreement.specs.Cases.{{words, nodes, times, freshFrom, flagsFrom, {calls}, \
-leaves, leavesBoth, finds, number, text, answer, Case, _gives_, Agree}}
+use Rattle.agreement.specs.Cases.{{words, nodes, times, {names}, answer, Case, _gives_, Agree}}
 
 abbrev pub {name} : List Case
 {name} =
@@ -140,6 +140,15 @@ pub {name}-agrees : Agree {name}
 unfolding everything
 {name}-agrees = refl
 '''
+
+
+# The tables of pack stand by themselves, so that no other table changes with them. For each kind of table its name,
+# its calls, and what it cites of Cases beside what all cite.
+PACKS = ('pack',)
+OTHERS = tuple(call for call in CALLS if call not in PACKS)
+KINDS = (('Table', OTHERS, ['freshFrom', 'flagsFrom', *(CALLS[call] for call in OTHERS), 'leaves', 'leavesBoth',
+                            'finds', 'number', 'text']),
+         ('Packs', PACKS, ['flagsFrom', *(CALLS[call] for call in PACKS), 'leavesBytes']))
 
 
 def is_large(case):
@@ -160,11 +169,12 @@ def dealt(cases):
 def files(cases):
     """The texts of all files by name."""
     texts = {}
-    for number, table in enumerate(dealt(cases), 1):
-        rows = [f'-- {case.note}\n    {"∷ " * (k > 0)}{call_text(case)} gives {result_text(case)}'
-                for k, case in enumerate(table)]
-        texts[f'Table{number:02}.antt'] = TABLE.format(
-            name=f'table{number:02}', rows='\n    '.join(rows), calls=', '.join(CALLS.values()))
+    for kind, calls, names in KINDS:
+        for number, table in enumerate(dealt([case for case in cases if case.call in calls]), 1):
+            rows = [f'-- {case.note}\n    {"∷ " * (k > 0)}{call_text(case)} gives {result_text(case)}'
+                    for k, case in enumerate(table)]
+            texts[f'{kind}{number:02}.antt'] = TABLE.format(
+                name=f'{kind.lower()}{number:02}', rows='\n    '.join(rows), names=', '.join(names))
     texts['Lib.antt'] = HEAD + ''.join(f'pub mod {name[:-5]}\n' for name in texts)
     return texts
 

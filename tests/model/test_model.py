@@ -243,6 +243,81 @@ class ExamplesBeyond(Compared):
                 self.same(model.unpack_check(bytes.fromhex(text)), answer, text)
 
 
+def shown(text):
+    """The bytes of a text in hex, as a list."""
+    return list(bytes.fromhex(text))
+
+
+class Packing(Compared):
+    """02: "Write packed plans too.\""""
+
+    def packs(self, table, text, note=''):
+        """The table packs into the bytes: exact, longer and one short."""
+        data = shown(text)
+        for room in (len(data), len(data) + 3, len(data) - 1):
+            buffer = cases.fresh_flags(room)
+            fits = room >= len(data)
+            want = data + cases.fresh_flags(room)[len(data):] if fits else cases.fresh_flags(room)
+            answer = model.pack(table, buffer)
+            due = Answer(0, 0, len(data)) if fits else Answer(14, 0, 0)
+            self.same((answer, buffer), (due, want), (note, room))
+
+    def pack_refused(self, table, number, place, note=''):
+        """The refusal, with room enough and with none: 14 is the last."""
+        for room in (60, 0):
+            buffer = cases.fresh_flags(room)
+            answer = model.pack(table, buffer)
+            self.same((answer, buffer), (Answer(number, place, 0), cases.fresh_flags(room)), (note, room))
+
+    def test_printed(self):
+        self.packs(const(2, 5), '01 00 04 0A')
+        self.packs(const(2, 300), '01 00 04 D8 04')
+        self.packs(node(model.PARAM, {4: 2, 6: 1, 7: -9, 8: 9, 9: 2}) + move(PAD, 0, (4,), (1,)),
+                   '02 01 04 00 02 11 12 04 00 00 00 06 00 08 00 00 00 02 00 00 00')
+
+    def test_words(self):
+        for word, text in ((0, '00'), (-1, '01'), (1, '02'), (-2, '03'), (63, '7E'), (-64, '7F'),
+                           (64, '80 01'), (-65, '81 01'),
+                           (8191, 'FE 7F'), (-8192, 'FF 7F'), (8192, '80 80 01'), (-8193, '81 80 01'),
+                           (1048575, 'FE FF 7F'), (1048576, '80 80 80 01'), (134217727, 'FE FF FF 7F'),
+                           (134217728, '80 80 80 80 01'), (-2147483648, 'FF FF FF FF 0F'),
+                           (17179869183, 'FE FF FF FF 7F'), (-17179869184, 'FF FF FF FF 7F')):
+            self.packs(const(3, word), '01 00 06 ' + text, word)
+        for word in (17179869184, -17179869185, 2 ** 63 - 1, -2 ** 63):
+            self.pack_refused(const(3, word), 25, 0, word)
+            self.pack_refused(const(2, 5) + node(LOAD, {1: word, 6: 1}), 25, 1, word)
+
+    def test_plain_numbers(self):
+        self.packs(node(LOAD, {6: 1}), '01 14 00 02', 'operation 20 is 14')
+        self.packs(const(0, 0) * 128, '80 01' + '00 00 00' * 128, 'the count 128')
+        self.packs(const(0, 0) * 256, '80 02' + '00 00 00' * 256, 'the count 256')
+
+    def test_unchecked(self):
+        self.packs(apply(ADD, 9, -1), '01 09 12 01', 'sources that are not earlier')
+        self.packs(const(7, 5), '01 00 0E 0A', 'a type that is none')
+
+    def test_order(self):
+        self.pack_refused(node(21, {w: 2 ** 40 for w in range(1, 17)}), 2, 0, '2 before 3 and 25')
+        self.pack_refused(node(0, {4: 2 ** 40, 9: 1}), 3, 0, '3 before 25, the used word first')
+        self.pack_refused(node(9, {1: 1, 2: 2 ** 40, 3: 1}), 3, 0, '3 before 25, beside each other')
+        self.pack_refused(node(20, {2: 1, 6: 2 ** 40}), 3, 0, '3 before 25, the unused word first')
+        self.pack_refused(node(0, {1: 2 ** 40}), 3, 0, 'an unused word is 3 however large')
+        self.pack_refused(const(2, 2 ** 40) + node(21), 25, 0, '25 of node 0 before 2 of node 1')
+        self.pack_refused(const(2, 2 ** 40) + node(0, {1: 1}), 25, 0, '25 of node 0 before 3 of node 1')
+        self.pack_refused(node(0, {1: 1}) + node(21), 3, 0, '3 of node 0 before 2 of node 1')
+        self.pack_refused(const(2, 5) * 255 + node(-1), 2, 255, 'the last of 256 nodes')
+        for length in (0, 1, 16, 18, 17 * 256 + 1, 17 * 257):
+            self.pack_refused((node(21) + const(2, 2 ** 40) * 256)[:length], 1, 0, length)
+
+    def test_longest(self):
+        for extreme in (17179869183, -17179869184):
+            table = node(model.PARAM, dict.fromkeys(model.USED_WORDS[model.PARAM], extreme)) * 256
+            buffer = [0] * 11778
+            self.same(model.pack(table, buffer), Answer(0, 0, 11778), '"256 nodes take at most 11778"')
+            self.same(bytes(buffer), pack(table))
+            self.same(model.pack(table, [0] * 11777), Answer(14, 0, 0))
+
+
 def outcome(case):
     """The number, the count and the buffers of a case, whatever its call answers."""
     answer, buffers = cases.expected(case)
@@ -263,18 +338,20 @@ class GeneratedCases(Compared):
     def test_counts(self):
         self.same(list(cases.all_cases(1)) == self.every, True, 'deterministic')
         self.same(list(cases.all_cases(2)) == self.every, False, 'seeded')
-        self.same(1500 <= len(self.every) <= 1800, True, len(self.every))
+        self.same(2000 <= len(self.every) <= 2400, True, len(self.every))
         for call, least in (('check', 800), ('run', 250), ('unpack', 150), ('lookup', 120),
-                            ('unpack_check', 60), ('listing', 20)):
+                            ('unpack_check', 60), ('listing', 20), ('pack', 500)):
             self.same(sum(c.call == call for c in self.every) >= least, True, call)
-        count = cases.GROUPS['by hand'][1]
-        by_hand = [list(cases.group('by hand', several, 1)) for several in (count, 10 * count)]
-        self.same(by_hand[0] == by_hand[1], True, 'no case by hand is left out')
+        for name in ('by hand', 'packs'):
+            count = cases.GROUPS[name][1]
+            several = [list(cases.group(name, most, 1)) for most in (count, 10 * count)]
+            self.same(several[0] == several[1], True, f'no case is left out: {name}')
 
     def test_every_number_is_reached(self):
         for call, numbers in (('check', (*range(13), 14)), ('run', (0, 2, 12, 13, 14, 15, 16)),
                               ('lookup', (0, 12, 17)), ('unpack', (0, 14, *range(20, 25))),
-                              ('unpack_check', (0, 12, *range(20, 25))), ('listing', (0, 20))):
+                              ('unpack_check', (0, 12, *range(20, 25))), ('listing', (0, 20)),
+                              ('pack', (0, 1, 2, 3, 14, 25))):
             reached = {number for case, number, _, _ in self.outcomes if case.call == call}
             self.same(set(numbers) - reached, set(), call)
         lookups = [c for c in self.every if c.call == 'lookup']
@@ -314,10 +391,7 @@ class GeneratedCases(Compared):
     def test_refusals_write_nothing(self):
         for case, number, third, buffers in self.outcomes:
             if number:
-                fresh = [cases.fresh_words(len(b)) for b in buffers]
-                if case.call == 'run':
-                    fresh[1] = cases.fresh_flags(len(buffers[1]))
-                self.same((third, list(buffers)), (0, fresh), case.note)
+                self.same((third, buffers), (0, cases.fresh_buffers(case)), case.note)
 
     def test_rule_pairs(self):
         for op, (base, _) in cases.DRAFTS.items():
@@ -331,6 +405,23 @@ class GeneratedCases(Compared):
         pairs = {(r, s) for r in range(2, 12) for s in range(r + 1, 12)}
         reached = {(r, s) for op in cases.DRAFTS for r, s, _ in cases.broken_pairs(op)}
         self.same(pairs - reached, {(5, 6), (5, 9), (5, 10), (7, 9), (7, 10)})
+
+    def test_round_trips(self):
+        """(02) "Reading what it wrote gives the table back; writing what was read gives the same
+        bytes.\""""
+        for case in self.every:
+            if case.call == 'pack':
+                data, table = [0] * 11778, [0] * len(case.args[0])
+                answer = model.pack(case.args[0], data)
+                if answer.number == 0:
+                    read = model.unpack(bytes(data[:answer.count]), table)
+                    self.same((read, table), (Answer(0, 0, len(table) // 17), case.args[0]), case.note)
+            if case.call == 'unpack':
+                table, data = [0] * 4352, [0] * 11778
+                answer = model.unpack(case.args[0], table)
+                if answer.number == 0:
+                    written = model.pack(table[:17 * answer.count], data)
+                    self.same(bytes(data[:written.count]), bytes(case.args[0]), case.note)
 
     def test_packed_forms(self):
         for case in self.every:

@@ -1,7 +1,7 @@
 #!/usr/bin/env python3
 """Every wrong model of wrong_models.py has to change the outcome of a case of the agreement tables (cases.py) and of
-a case of the program vectors (tests/tools/vectors.py, the examples of run and lookup with it); an exception is a
-change too. The right model agrees with every case, and so does every control.
+a case of the program vectors (tests/tools/vectors.py, the examples of run, lookup and pack with it); an exception is
+a change too. The right model agrees with every case, and so does every control.
 
 usage: test_wrong_models.py [--list]     last line: 'N passed, 0 failed', N the number of wrong models
        --list: each of them with the first case of each set that sees it
@@ -25,8 +25,10 @@ RUN, PACKED = ('run',), ('unpack', 'unpack_check', 'listing')
 CALLS = {**dict.fromkeys(('run', 'all_fields', 'input_refusal', 'operand_at', 'binary_value', 'where_value',
                           'reduce_value', 'element_value'), RUN),
          **dict.fromkeys(('unpack', 'read_number', 'read_node', 'word_of'), PACKED),
-         **{call: (call,) for call in ('check', 'lookup', 'unpack_check', 'listing')}}
-ALL_CALLS = {'check', 'lookup', *RUN, *PACKED}
+         **dict.fromkeys(('pack_refusal', 'PACK_RULES', 'LEAST_WORD', 'GREATEST_WORD', 'written_number', 'written_node',
+                          'number_of'), ('pack',)),
+         **{call: (call,) for call in ('check', 'lookup', 'unpack_check', 'listing', 'pack')}}
+ALL_CALLS = {'check', 'lookup', 'pack', *RUN, *PACKED}
 
 
 def size(case):

@@ -991,6 +991,195 @@ def packed():
         lambda answer: 65536 * answer.number + answer.place or answer.count)(RIGHT.unpack(data, [0] * 4352))}
 
 
+# ------------------------------------------------------------- writing plans
+
+def groups_by(longer=lambda number: number >= 128, base=128, high=lambda k, last: k < last,
+              change=lambda groups: groups):
+    """written_number with other groups, or other bytes that have the high bit."""
+    def wrong(number):
+        groups = []
+        while longer(number):
+            groups.append(number % base)
+            number //= base
+        groups = change([*groups, number])
+        return [group + 128 * high(k, len(groups) - 1) for k, group in enumerate(groups)]
+    return {'written_number': wrong}
+
+
+NUMBER_SLIPS = (
+    ('127 in two bytes', groups_by(lambda number: number >= 127)),
+    ('128 in one byte', groups_by(lambda number: number > 128)),
+    ('a group of 0 after one', groups_by(change=lambda groups: [*groups, *[0] * (len(groups) == 1)])),
+    ('a group of 0 after two', groups_by(change=lambda groups: [*groups, *[0] * (len(groups) == 2)])),
+    ('always five bytes', groups_by(change=lambda groups: [*groups, *[0] * (5 - len(groups))])),
+    ('four bytes at most', groups_by(change=lambda groups: groups[:4])),
+    ('no high bit', groups_by(high=lambda k, last: False)),
+    ('the high bit in every byte', groups_by(high=lambda k, last: True)),
+    ('the high bit in the last byte', groups_by(high=lambda k, last: last and k == last)),
+    ('the high bit in the first byte alone', groups_by(high=lambda k, last: last and k == 0)),
+    ('highest group first', groups_by(change=lambda groups: groups[::-1])),
+    ('the last two groups exchanged', groups_by(change=lambda groups: [*groups[:-2], *groups[-2:][::-1]])),
+    ('groups of six bits', groups_by(lambda number: number >= 64, 64)),
+    ('words plain', {'number_of': lambda word: word}),
+    ('words below zero as −2n', {'number_of': lambda word: 2 * abs(word)}),
+    ('words below zero as −2n+1', {'number_of': lambda word: 2 * abs(word) + (word < 0)}),
+    ('words below zero as −2n−2', {'number_of': lambda word: 2 * abs(word) - 2 * (word < 0)}),
+    ('words from zero on odd', {'number_of': lambda word: RIGHT.number_of(word) ^ 1}),
+    ('0 as a word below zero', {'number_of': lambda word: RIGHT.number_of(word) if word else 1}),
+    ('words of 32 bits', {'number_of': lambda word: RIGHT.number_of(word) % 2 ** 32}),
+    ('words of 34 bits', {'number_of': lambda word: RIGHT.number_of(word) % 2 ** 34}),
+)
+
+
+def written_by(used=RIGHT.USED_WORDS, turn=1, operation=lambda op: op):
+    """written_node of other words, in another order, or with another number for the operation."""
+    return {'written_node': lambda words: sum(
+        (model.written_number(model.number_of(words[word])) for word in used[words[0]][::turn]),
+        model.written_number(operation(words[0])))}
+
+
+def range_of(least, greatest):
+    return {'LEAST_WORD': least, 'GREATEST_WORD': greatest}
+
+
+LEAST, GREATEST = RIGHT.LEAST_WORD, RIGHT.GREATEST_WORD
+RANGE_SLIPS = (
+    ('no least word', range_of(LEAST + 1, GREATEST)), ('no greatest word', range_of(LEAST, GREATEST - 1)),
+    ('one word below', range_of(LEAST - 1, GREATEST)), ('one word above', range_of(LEAST, GREATEST + 1)),
+    ('any word below', range_of(-2 ** 63, GREATEST)), ('any word above', range_of(LEAST, 2 ** 63 - 1)),
+    ('words of i32', range_of(-2 ** 31, 2 ** 31 - 1)),
+)
+
+
+def pack_rule(number, wrong):
+    """Another test of a node by a rule of pack."""
+    return {'PACK_RULES': tuple((n, wrong if n == number else right) for n, right in RIGHT.PACK_RULES)}
+
+
+def pack_rule_seen(number, op, word):
+    """The rule sees 0 in a word of the operation."""
+    return pack_rule(number, lambda node: PACKING[number](changed(node, setting(word, 0)) if node.op == op else node))
+
+
+PACKING = dict(RIGHT.PACK_RULES)
+
+
+def is_far(word):
+    return not LEAST <= word <= GREATEST
+
+
+def far(node):
+    """Rule 25, which looks at every word of an operation that is not known."""
+    return any(map(is_far, node.words[1:])) if PACKING[2](node) else PACKING[25](node)
+
+
+def unused_far(node):
+    return any(is_far(node.words[word]) for word in range(1, 17) if not node.uses(word))
+
+
+def later(number):
+    """The refusal of the first node that breaks another rule; where there is none, of the first that breaks this one."""
+    def wrong(table):
+        for rules in ([pair for pair in RIGHT.PACK_RULES if pair[0] != number], [(number, PACKING[number])]):
+            with patched({'PACK_RULES': tuple((n, quiet(test)) for n, test in rules)}):
+                found = RIGHT.pack_refusal(table)
+            if found != (0, 0):
+                return found
+        return 0, 0
+    return {'pack_refusal': wrong}
+
+
+def packing_orders():
+    for number in PACKING:
+        yield f'rule {number} is not asked', pack_rule(number, lambda node: False)
+    for name, rules in (('3 before 2', ((3, nothing_used), (2, PACKING[2]), (25, quiet(PACKING[25])))),
+                        ('25 before 3', ((2, PACKING[2]), (25, PACKING[25]), (3, PACKING[3]))),
+                        ('25 before 2', ((25, far), (2, PACKING[2]), (3, PACKING[3])))):
+        yield name, {'PACK_RULES': rules}
+    yield 'an unused word out of range is 25', {'PACK_RULES': (
+        (2, PACKING[2]), (3, lambda node: PACKING[3](node) and not unused_far(node)),
+        (25, lambda node: PACKING[25](node) or unused_far(node)))}
+    for number in (25, 3):
+        yield f'{number} after all nodes', later(number)
+    for name, place in (('from 1', lambda place, nodes: place + 1), ('0', lambda place, nodes: 0),
+                        ('from the last', lambda place, nodes: nodes - 1 - place),
+                        ('by words', lambda place, nodes: 17 * place)):
+        yield f'places {name}', {'pack_refusal': lambda table, p=place: (lambda number, at: (
+            number, p(at, len(table) // 17) if number > 1 else at))(*RIGHT.pack_refusal(table))}
+    for name, part in (('first', slice(17, None)), ('last', slice(0, -17))):
+        yield f'the {name} node is not tested', {'pack_refusal': lambda table, s=part: (
+            RIGHT.pack_refusal(table if len(table) < 34 or RIGHT.length_wrong(table) else table[s]))}
+
+
+def pack_by(length=RIGHT.length_wrong, room=lambda room, size, nodes: room < size, first=False, place=0,
+            count=lambda size, nodes, room: size, counted=lambda nodes: nodes, early=0, past=0, unwritten=0):
+    """pack by other tests of length and room, with another count, or that writes other places. first: the room before
+    the nodes; early: the bytes that a refusal by 14 writes; past: the places past its bytes that it clears."""
+    def wrong(table, buffer):
+        nodes, data = len(table) // 17, []
+        with patched({'length_wrong': length}):
+            refusal = model.pack_refusal(table)
+        known = not RIGHT.length_wrong(table) and all(0 <= op <= 20 for op in table[::17])
+        if refusal[0] == 0 or known:
+            data = sum((model.written_node(RIGHT.node_words(table, k)) for k in range(nodes)),
+                       model.written_number(counted(nodes)))
+        short = room(len(buffer), len(data), nodes)
+        if refusal[0] and not (first and known and short):
+            return Answer(*refusal, 0)
+        if short:
+            buffer[:early] = data[:min(early, len(buffer))] or buffer[:early]
+            return Answer(14, place, 0)
+        buffer[:len(data) - unwritten] = data[:len(data) - unwritten]
+        buffer[len(data):len(data) + past] = [0] * len(buffer[len(data):len(data) + past])
+        return Answer(0, 0, count(len(data), nodes, len(buffer)))
+    return {'pack': wrong}
+
+
+PACK_SLIPS = (
+    ('any room', pack_by(room=lambda room, size, nodes: False)),
+    ('one byte less of room', pack_by(room=lambda room, size, nodes: room < size - 1)),
+    ('one byte more of room', pack_by(room=lambda room, size, nodes: room <= size)),
+    ('exact room', pack_by(room=lambda room, size, nodes: room != size)),
+    ('a byte of room for each word', pack_by(room=lambda room, size, nodes: room < 17 * nodes)),
+    ('14 before the nodes', pack_by(first=True)), ('14 at 1', pack_by(place=1)),
+    ('14 with a byte written', pack_by(early=1)),
+    ('the nodes counted', pack_by(count=lambda size, nodes, room: nodes)),
+    ('the room counted', pack_by(count=lambda size, nodes, room: room)),
+    ('nothing counted', pack_by(count=lambda size, nodes, room: 0)),
+    ('a count of a byte', pack_by(count=lambda size, nodes, room: size % 256)),
+    ('a count without that of the nodes', pack_by(count=lambda size, nodes, room: size - 1)),
+    ('the nodes as a word', pack_by(counted=lambda nodes: 2 * nodes)),
+    ('one node less', pack_by(counted=lambda nodes: nodes - 1)),
+    ('the nodes of seven bits', pack_by(counted=lambda nodes: nodes % 128)),
+    ('a place past its bytes cleared', pack_by(past=1)), ('the last byte not written', pack_by(unwritten=1)),
+    ('words past the last node left out', pack_by(
+        length=lambda table: RIGHT.length_wrong(table[:len(table) // 17 * 17]))),
+    ('no nodes', pack_by(length=lambda table: bool(table) and RIGHT.length_wrong(table))),
+    ('257 nodes', pack_by(length=lambda table: len(table) != 17 * 257 and RIGHT.length_wrong(table))),
+    ('no 256 nodes', pack_by(length=lambda table: RIGHT.length_wrong(table + [0] * 17))),
+)
+
+
+def packs():
+    for name, patch in (*NUMBER_SLIPS, *RANGE_SLIPS, *PACK_SLIPS, *packing_orders(),
+                        ('words in falling order', written_by(turn=-1)),
+                        ('the operation as a word', written_by(operation=lambda op: 2 * op))):
+        yield f'pack: {name}', patch
+    for number in range(4, 13):
+        yield f'pack: rule {number} is asked', {'pack_refusal': lambda table, n=number: (
+            lambda found, verdict: verdict if found[0] == 0 and verdict[0] == n else found)(
+                RIGHT.pack_refusal(table), RIGHT.verdict(table))}
+    for op in range(21):
+        for word in range(1, 17):
+            turned = sorted({*RIGHT.USED_WORDS[op]} ^ {word})
+            masks = tuple(tuple(turned) if k == op else right for k, right in enumerate(RIGHT.USED_WORDS))
+            yield f'pack: word {word} of {NAMES[op]} the other way', in_call('pack', {'USED_WORDS': masks})
+            if word in RIGHT.USED_WORDS[op]:
+                yield f'pack: word {word} of {NAMES[op]} is not written', written_by(masks)
+            number = 25 if word in RIGHT.USED_WORDS[op] else 3
+            yield f'pack: word {word} of {NAMES[op]} is not tested by {number}', pack_rule_seen(number, op, word)
+
+
 # ------------------------------------------------------------- one set only
 
 def listings():
@@ -1013,10 +1202,11 @@ CONTROLS = (
     ('operands', {'element_value': read_at_0((*BINARY, WHERE), [0, 1, 2], lambda *_: False)}),
     ('rule 12', {'verdict': over(lambda counts: counts)}), ('reduction', reduced()), ('inputs', scanned()),
     ('run', run_by()), ('check', check_by()), ('lookup', lookup_by()), ('number', number_by()), ('node', node_by()),
-    ('unpack', unpack_by()),
+    ('unpack', unpack_by()), ('written number', groups_by()), ('written node', written_by()), ('pack', pack_by()),
+    ('range of pack', range_of(LEAST, GREATEST)), ('rules of pack', pack_rule(0, None)),
 )
 FAMILIES = (movements, shapes, broadcasts, orders, words, types, devices, numbers, rows, limits, bounds, values,
-            reductions, inputs, runs, checks, lookups, packed)
+            reductions, inputs, runs, checks, lookups, packed, packs)
 ONE_SET_ONLY = (
     ('agreement', listings, 'the program vectors lists nothing'),
     ('vectors', bytes_wide, 'the runs of the tables have less than 200 elements'),

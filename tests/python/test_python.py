@@ -144,12 +144,16 @@ def test_plan(tally, lup, rng, table):
     wanted = (number, rest) if number else [tuple(record) for record in rest]
     with watching(tally, lup):
         tally.same('unpack', lup.unpack(given(lup, rng, list(data), 'B')).tolist(), table)
+        tally.same('pack', lup.pack(given(lup, rng, table, 'q')), data)
+        tally.same('packed again', lup.pack(lup.unpack(data)), data)
         got = told(lup, lup.check, given(lup, rng, table, 'q'))
         tally.same('check', got if number else [tuple(record) for record in got], wanted)
         tally.same('unpack_check', told(lup, lup.unpack_check, data), (number, rest) if number else len(rest))
         plan = told(lup, lup.Plan, data)
         made = plan if number else (plan.table.tolist(), list(plan.records))
         tally.same('a Plan', made, (number, rest) if number else (table, wanted))
+        if not number:
+            tally.same('a Plan packed', lup.pack(plan), data)
 
 
 def test_examples(tally, lups, rng):
@@ -204,6 +208,17 @@ def test_forms(tally, lups):
         for name, form in {**forms(lup.numpy, data, 'B'), 'bytes': data, 'view': memoryview(data)}.items():
             with watching(tally, lup):
                 tally.same((name, 'data'), (lup.unpack(form).tolist(), lup.unpack_check(form)), (SMALL, 2))
+        for name, form in forms(lup.numpy, SMALL, 'q').items():
+            with watching(tally, lup) as library:
+                tally.same((name, 'packed'), lup.pack(form), data)
+                tally.same((name, 'handed over'), library.read, [SMALL])
+        with watching(tally, lup):
+            tally.same('bools in a table', lup.pack([cases.CONST, 0, 0, 0, False, True] + [0] * 11), bytes.fromhex('01000002'))
+
+
+def address(form):
+    """Where the numbers lie, None where that cannot be asked."""
+    return form.buffer_info()[0] if isinstance(form, array) else getattr(form, 'ctypes', None) and form.ctypes.data
 
 
 def test_no_copy(tally, lups):
@@ -218,12 +233,15 @@ def test_no_copy(tally, lups):
                 arguments[which] = form
                 with watching(tally, lup) as library:
                     result = plan.run(*arguments[1:])
-                at = form.buffer_info()[0] if isinstance(form, array) else getattr(form, 'ctypes', None) and form.ctypes.data
                 wanted = name in straight | ({'wider'} if code == 'q' else {'misaligned', 'another order'})
-                tally.same((name, which, 'no copy'), library.handed[which][1] == at, wanted)
+                tally.same((name, which, 'no copy'), library.handed[which][1] == address(form), wanted)
                 result.values[0], result.flags[0] = 1, 1
                 again = form.tolist() if hasattr(form, 'tolist') else list(form)
                 tally.same((name, which, 'not shared'), sum(again, []) if name == 'a column' else again, numbers)
+        for name, form in forms(lup.numpy, SMALL, 'q').items():
+            with watching(tally, lup) as library:
+                lup.pack(form)
+            tally.same((name, 'a table, no copy'), library.handed[0][1] == address(form), name in straight | {'wider'})
         numbers, tried = array('q', [7, 5]), []
         with watching(tally, lup) as library:
             library.before = lambda: tried.append(words(numbers.append, 1)[0])
@@ -291,7 +309,7 @@ def test_wrong_masks(tally, lup):
         got = words(run, *inputs(two))
         tally.same(('a wrong mask', turn), (got[0], got[1][:len(message)]), (kind, message))
     table, data = numpy.ma.array(SMALL), numpy.ma.array(list(cases.pack(SMALL)), 'uint8')
-    calls = ((lup.check, table), (lup.run, table, [7, 5], [1, 1]), (lup.lookup, table, 0, 0), (lup.Plan.of_table, table),
+    calls = ((lup.check, table), (lup.pack, table), (lup.run, table, [7, 5], [1, 1]), (lup.lookup, table, 0, 0), (lup.Plan.of_table, table),
              (lup.unpack, data), (lup.unpack_check, data), (lup.Plan, data),
              (lup.lookup, SMALL, 0, numpy.ma.array(1, mask=True)))
     for call, *arguments in calls:
@@ -331,7 +349,8 @@ def test_types(tally, lup):
         message = f': whole numbers are wanted, and this array is of {wrong.dtype}'
         tally.same(('values', wrong.dtype), words(run, wrong, flags), ('TypeError', 'values' + message))
         tally.same(('flags', wrong.dtype), words(run, [7, 5], wrong), ('TypeError', 'flags' + message))
-        tally.same(('table', wrong.dtype), words(lup.check, wrong), ('TypeError', 'table' + message))
+        for call in (lup.check, lup.pack):
+            tally.same(('table', wrong.dtype), words(call, wrong), ('TypeError', 'table' + message))
     large = numpy.array([7, 2 ** 63], 'uint64')
     message = 'values: position 1 holds 9223372036854775808, not -9223372036854775808..9223372036854775807'
     tally.same('uint64', words(run, large, [1, 1]), ('OverflowError', message))
@@ -366,6 +385,9 @@ def test_sequences(tally, lups):
             tally.same(('a lookup', shown), words(lup.lookup, SMALL, 0, wrong), ('TypeError', message))
         tally.same('an array of floats', words(run, array('d', [7, 5]), [1, 0])[0], 'TypeError')
         tally.same('no sequence', words(run, 7, [1, 0]), ('TypeError', NO_NUMBERS + 'this is 7 (int)'))
+        for wrong, kind in ((7, 'TypeError'), ('12', 'TypeError'), ([1.0] * 17, 'TypeError'), ([0] * 16 + [2 ** 63], 'OverflowError')):
+            got = words(lup.pack, wrong)
+            tally.same(('a table to pack', wrong), (got[0], got[1][:6]), (kind, 'table:'))
         tally.same('text', words(lup.unpack, '12')[0], 'TypeError')
         tally.same('a number of bytes', words(lup.unpack, 3)[0], 'TypeError')
         for number, flag, message in ((2 ** 63, 1, f'values: item 1 is {2 ** 63}, not {-2 ** 63}..{2 ** 63 - 1}'),
@@ -427,9 +449,38 @@ def test_plan_words(tally, lups):
                                ([*SMALL, 99, *[0] * 16], 'refused 2 at node 2 (operation 99): operation not 0..20'),
                                ([*SMALL, -1, *[0] * 16], 'refused 2 at node 2 (operation -1): operation not 0..20'),
                                ([9, 0, 0, 1, *[0] * 13], 'refused 3 at node 0 (ADD): unused word not zero')):
-            for call in (lup.check, lup.Plan.of_table):
+            for call in (lup.check, lup.Plan.of_table, lup.pack):
                 tally.same(message, words(call, table), ('Refused', message))
             tally.same(message, words(lup.run, table, [], []), ('Refused', message))
+
+
+LEAST, MOST = -17179869184, 17179869183
+OUTSIDE = 'a used word not in -17179869184..17179869183'
+# Tables that cannot be packed: number, place, what follows the number.
+NOT_PACKED = (
+    (1, 0, ': length no multiple of 17, or not 1..256 nodes: 4369 words', cases.const(0, 1) * 257),
+    (2, 0, ' at node 0 (operation 21): operation not 0..20', cases.node(21, dict.fromkeys(range(1, 17), MOST + 1))),
+    (3, 1, ' at node 1 (ADD): unused word not zero', SMALL[:17] + cases.node(9, {1: MOST + 1, 3: MOST + 1})),
+    (25, 0, f' at node 0 (CONST): {OUTSIDE}: word 4 is {MOST + 1}', cases.node(0, {4: MOST + 1, 5: LEAST - 1}) + cases.node(99)),
+    (25, 2, f' at node 2 (SHRINK): {OUTSIDE}: word 16 is {LEAST - 1}', SMALL + cases.node(7, {1: MOST, 9: LEAST, 16: LEAST - 1})),
+    (25, 1, f' at node 1 (LOAD): {OUTSIDE}: word 1 is {-2 ** 63}', SMALL[:17] + cases.node(20, {1: -2 ** 63, 6: 2 ** 63 - 1})),
+)
+
+
+def test_packing(tally, lups):
+    """What pack refuses, in the words of lup; what the check refuses is packed; the longest plan."""
+    for lup in lups:
+        for number, place, said, table in NOT_PACKED:
+            for form in forms(lup.numpy, table, 'q').values():
+                with watching(tally, lup):
+                    tally.same(said, words(lup.pack, form), ('Refused', f'refused {number}{said}'))
+            tally.same((number, place), told(lup, lup.pack, table), (number, place))
+        for op, used in enumerate(model.USED_WORDS):
+            for word in (LEAST, MOST, -1, 64):
+                table = cases.node(op, dict.fromkeys(used, word)) * 256
+                data = lup.pack(table)
+                tally.same((op, word), (type(data), data, lup.unpack(data).tolist()), (bytes, cases.pack(table), table))
+        tally.same('the longest', len(lup.pack(cases.node(6, dict.fromkeys(model.USED_WORDS[6], MOST)) * 256)), lup.MOST_PACKED_BYTES)
 
 
 def test_run_words(tally, lups):
@@ -584,7 +635,7 @@ def main():
     test_examples(tally, lups, rng)
     test_plans(tally, lups, rng, count)
     test_unpacking(tally, lups)
-    for test in (test_forms, test_no_copy, test_sequences, test_rules, test_plan_words, test_run_words, test_pickling,
+    for test in (test_forms, test_no_copy, test_sequences, test_rules, test_plan_words, test_packing, test_run_words, test_pickling,
                  test_plan_object, test_checked_once, test_hints):
         with tally.case(test.__name__):
             test(tally, lups)

@@ -6,7 +6,7 @@ from array import array
 from contextlib import contextmanager
 
 # Of each call: its buffers in order, 'q' for 64-bit words and 'B' for bytes, and which of them it writes.
-CALLS = {'lup_unpack': ('Bq', (1,)), 'lup_check': ('qq', (1,)), 'lup_unpack_check': ('B', ()),
+CALLS = {'lup_unpack': ('Bq', (1,)), 'lup_pack': ('qB', (1,)), 'lup_check': ('qq', (1,)), 'lup_unpack_check': ('B', ()),
          'lup_run': ('qqBqB', (3, 4)), 'lup_lookup': ('q', ())}
 
 

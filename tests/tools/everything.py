@@ -6,7 +6,7 @@ usage: everything.py [--check]     --check: exit 1 where the committed file is n
 import glob, os, re, sys
 
 ROOT = os.path.dirname(os.path.dirname(os.path.dirname(os.path.abspath(__file__))))
-CRATES = "laws plan codec shapes bounds rules verifier cells runner lookup".split()
+CRATES = "laws plan codec packing shapes bounds rules verifier cells runner lookup".split()
 TARGET = os.path.join(ROOT, "crates", "guarantees", "proofs", "Everything.antt")
 
 

@@ -256,7 +256,7 @@ COLUMNS = {'definition': definition, 'contract': contract, 'shown by': shown, 'c
 
 def citations(head, cell, headings):
     """(what, whether it is there) of all that a cell cites."""
-    if head in ('01 says', 'request'):
+    if head in ('01 says', '02 says', 'request'):
         return []
     if head in ('what it says', 'what is to come', 'wrong definition'):
         return list(words(cell))

@@ -6,9 +6,9 @@ usage: vectors.py             write both files
        vectors.py --list      a line for each case: index, call, name, answer
        vectors.py --spoilt PROGRAM    exit 1 unless the program finds each case that is spoilt
 
-Every expected answer here is written by hand from the sentence of 01 that is quoted above it; those of run and
-lookup are in tests/boundary (run_examples.py, lookup_examples.py). The model of tests/model is only asked
-afterwards, and the script stops where it differs.
+Every expected answer here is written by hand from the sentence of 01 that is quoted above it; those of run, lookup
+and pack are in tests/boundary (run_examples.py, lookup_examples.py, pack_examples.py). The model of tests/model is
+only asked afterwards, and the script stops where it differs.
 """
 import os
 import struct
@@ -21,21 +21,22 @@ sys.path[:0] = [os.path.join(ROOT, 'tests', part) for part in ('model', 'boundar
 
 import lookup_examples
 import model
+import pack_examples
 import run_examples
-from cases import (BIG, LARGE, apply, at_axis, const, fresh_words, large, move, node, pack, param,
+from cases import (BIG, LARGE, apply, at_axis, const, fresh_words, large, load, move, node, pack, param,
                    reduce_node, smallest)
-from model import (ADD, AND, CAST, CMPLT, CMPNE, EXPAND, FLIP, IDIV, LOAD, MAX, MOD, MUL, OR, PAD, PERMUTE,
-                   RESHAPE, SHRINK, WHERE)
+from model import (ADD, AND, CAST, CMPLT, CMPNE, EXPAND, FLIP, IDIV, MAX, MOD, MUL, OR, PAD, PERMUTE, RESHAPE,
+                   SHRINK, WHERE)
 
 FRAMES = os.path.join(ROOT, 'crates', 'vectors', 'stdin')
 OUTPUT = os.path.join(ROOT, 'crates', 'vectors', 'stdout')
-MOST_FRAME_BYTES = 1048576
-KINDS = {'unpack_check': 0, 'unpack': 1, 'check': 2, 'run': 3, 'lookup': 4}
+MOST_FRAME_BYTES = 1310720
+KINDS = {'unpack_check': 0, 'unpack': 1, 'check': 2, 'run': 3, 'lookup': 4, 'pack': 5}
 BOOL, U8, I16, I32 = range(4)
 FRESH_FLAG = 9
 
 # answer: (number, place, count), of unpack_check one number, of lookup five. buffer: every word afterwards, None where the
-# call has none; of a run those of the values and then the flags.
+# call has none; of a run those of the values and then the flags, of a pack the bytes.
 Case = namedtuple('Case', 'call name source answer buffer')
 
 
@@ -80,10 +81,6 @@ def code(number, place):
 
 def cast(source, dtype):
     return node(CAST, {1: source, 4: dtype})
-
-
-def load(source, device):
-    return node(LOAD, {1: source, 6: device})
 
 
 def changed(words, *changes):
@@ -875,18 +872,10 @@ ONE_CALL = [
 ]
 
 
-def packable(table):
-    """Whether a packed plan can hold the table: operations known, unused words zero, words in five bytes."""
-    nodes = [table[k:k + 17] for k in range(0, len(table), 17)]
-    return 1 <= len(nodes) <= 256 and len(table) % 17 == 0 and all(
-        0 <= words[0] <= 20 and not model.unused_word_set(model.Node(words, [], 0))
-        and all(-2 ** 34 <= word < 2 ** 34 for word in words) for words in nodes)
-
-
 def packed_too(cases):
     """The packable plans of the checks by unpack and check in one call; room plays no part there."""
     for case in cases:
-        if packable(case.source) and case.answer[0] != 14:
+        if model.pack_refusal(case.source)[0] == 0 and case.answer[0] != 14:
             number, place, _ = case.answer
             answer = code(number, place) if number else len(case.source) // 17
             yield in_one_call(f'packed: {case.name}', pack(case.source), answer)
@@ -911,7 +900,16 @@ def run_case(example):
 RUNS = [run_case(example) for example in run_examples.EXAMPLES]
 LOOKUPS = [Case('lookup', f'lookup: {example.name}', example, example.reply, None)
            for example in lookup_examples.EXAMPLES]
-CASES = [*UNPACKED, *BYTES_REFUSED, *BYTE_ORDER, *CHECKS, *ONE_CALL, *packed_too(CHECKS), *RUNS, *LOOKUPS]
+
+
+def pack_case(example):
+    """A pack that is written by hand; places past its bytes, and all of a refused one, stay as they were."""
+    buffer = [*example.data, *[FRESH_FLAG] * (example.room - len(example.data))]
+    return Case('pack', f'pack: {example.name}', example.table, example.answer, buffer)
+
+
+PACKS = [pack_case(example) for example in pack_examples.EXAMPLES]
+CASES = [*UNPACKED, *BYTES_REFUSED, *BYTE_ORDER, *CHECKS, *ONE_CALL, *packed_too(CHECKS), *RUNS, *LOOKUPS, *PACKS]
 
 # ------------------------------------------------------------------ the files
 
@@ -930,7 +928,7 @@ def source_bytes(case):
         return struct.pack('<2Q', case.source.node, case.source.element) + word_bytes(case.source.table)
     if case.call == 'unpack_check':
         return case.source
-    data = word_bytes(case.source) if case.call == 'check' else case.source
+    data = case.source if case.call == 'unpack' else word_bytes(case.source)
     return struct.pack('<H', len(case.buffer)) + data
 
 
@@ -956,6 +954,8 @@ def of_model(case):
     if case.call == 'lookup':
         return case._replace(answer=tuple(model.lookup(case.source.table, case.source.node, case.source.element)))
     buffer = None if case.buffer is None else fresh_words(len(case.buffer))
+    if case.call == 'pack':
+        buffer = [FRESH_FLAG] * len(case.buffer)
     arguments = (case.source,) if buffer is None else (case.source, buffer)
     answer = getattr(model, case.call)(*arguments)
     return case._replace(answer=answer if buffer is None else tuple(answer), buffer=buffer)
@@ -969,7 +969,7 @@ def problems():
             words = 'the same words' if other.buffer == case.buffer else 'other words'
             yield f'{case.call}, {case.name}: the model answers {other.answer}, not {case.answer}; {words}'
     numbers = {case.answer[0] for case in CASES if case.call != 'unpack_check'}
-    missing = {*range(18), *range(20, 25)} - numbers
+    missing = {*range(18), *range(20, 26)} - numbers
     if missing:
         yield f'no case of {sorted(missing)}'
     every = {(a, b) for a in range(2, 12) for b in range(a + 1, 12)}
@@ -991,7 +991,7 @@ def spoilt(program):
         ends = [len(data) - 8 * k - 1 for k in {0, words // 2, words - 3, words - 2, words - 1} if 0 <= k]
         for at in (0, *ends):
             other = bytearray(data)
-            other[at] ^= 7 if at == 0 else 1
+            other[at] ^= 8 if at == 0 else 1  # of the kind: one that there is not
             if not output(program, bytes(other)).endswith('\n0 passed, 1 failed\n'):
                 yield f'case {index} with byte {at} spoilt passes'
     data = frame(CASES[0]) * 2

@@ -18,7 +18,7 @@ import tempfile
 from collections import namedtuple
 
 ROOT = os.path.dirname(os.path.dirname(os.path.dirname(os.path.abspath(__file__))))
-CRATES = 'laws plan codec shapes bounds rules verifier cells runner lookup guarantees'.split()
+CRATES = 'laws plan codec packing shapes bounds rules verifier cells runner lookup guarantees'.split()
 REFUTED = 'crates/guarantees/proofs/Refuted.antt'
 
 # file below crates/, the text in it and what stands there instead; the statement that is false then, and the proof of that.
@@ -51,6 +51,7 @@ use Rattle.guarantees.specs.Runs.{RunsExactly}
 use Rattle.guarantees.specs.Records.{RecordsSay}
 use Rattle.guarantees.specs.Checks.{ChecksExactly}
 use Rattle.guarantees.specs.Unpacks.{UnpacksExactly}
+use Rattle.guarantees.specs.Packs.{RoundTrips}
 use Rattle.guarantees.specs.Refusals.{RefusalsKeep}
 use Rattle.guarantees.specs.Lookups.{LeadsTo, LookupAgrees, here}
 use Rattle.guarantees.specs.Whole.{FromBytes}
@@ -148,7 +149,7 @@ refuted h =
           'typesAgree op a b c = byOperation op (typeRules a b c) false', 'typesAgree op a b c = true', 'RulesSay', '''
 refuted h = (h .rule-6 twoRules 1 before 19 refl (omega arith) .0 refl) .reduces refl refl
 '''),
-    Wrong('rule 3 always holds', 'rules/specs/Rules.antt',
+    Wrong('rule 3 always holds', 'plan/specs/Words.antt',
           'unusedZero op w = allBelow wordsPerNode', 'unusedZero op w = true || allBelow wordsPerNode', 'RulesSay', '''
 refuted h = never (ap natAbs (h .rule-3 (pos 0 ∷ zeros 8 ++ pos 7 ∷ zeros 7) 0 [] 0 refl (omega arith) .0 refl 9 (omega arith) (omega arith) refl)) (λ e. absurd (omega (arith, e)))
 '''),
@@ -223,10 +224,39 @@ refuted h =
     let records : 16 ≤ 16 = omega arith in
     never (ap (λ (a : Answer). a .count) (h (2 ∷ 0 ∷ 4 ∷ 10 ∷ 0 ∷ 4 ∷ 12 ∷ []) (zeros 34) (zeros 16) two words records .unpacked)) (λ e. absurd (omega (arith, e)))
 '''),
+    Wrong('the writer counts 1', 'packing/specs/Packing.antt',
+          'packAnswer = answerOf (λ (bytes : List ℕ). length bytes)', 'packAnswer = answerOf (λ (bytes : List ℕ). 1)', 'RoundTrips', '''
+refuted h =
+    let words : 17 ≤ 17 = omega arith in
+    never (ap (λ (a : Answer). a .number) (h .read-back (constant i16 (pos 5)) (replicate 4 0) (zeros 17) refl words .2)) (λ e. absurd (omega (arith, e)))
+'''),
+    Wrong('the writer pads numbers', 'packing/specs/Bytes.antt',
+          'cond (ltb m 128) (m ∷ [])', 'cond (ltb m 1) (m ∷ [])', 'RoundTrips', '''
+refuted h =
+    let words : 17 ≤ 17 = omega arith in
+    never (ap (λ (a : Answer). a .number) (h .read-back (constant i16 (pos 5)) (replicate 9 0) (zeros 17) refl words .2)) (λ e. absurd (omega (arith, e)))
+'''),
+    Wrong('the writer refuses every plan', 'packing/specs/Packing.antt',
+          'need (lengthRight t) 1 0', 'need (not (lengthRight t)) 1 0', 'RoundTrips', '''
+refuted h =
+    let room : 4 ≤ 4 = omega arith in
+    never (ap (λ (a : Answer). a .number) (h .written-back four are (zeros 17) (replicate 4 0) refl room .0)) (λ e. absurd (omega (arith, e)))
+'''),
 )
 
 # What a proof uses beside the head.
 NEEDS = {
+    'the writer refuses every plan': '''abbrev four : List ℕ
+four = 1 ∷ 0 ∷ 4 ∷ 10 ∷ []
+
+are : (i : ℕ) → i < 4 → getD four i 0 < 256
+are zero l = omega arith
+are (suc zero) l = omega arith
+are (suc (suc zero)) l = omega arith
+are (suc (suc (suc zero))) l = omega arith
+are (suc (suc (suc (suc i)))) l = absurd (omega arith)
+
+''',
     'FLIP never reverses': '''abbrev flipped : List ℤ
 flipped = param 0 i16 (pos 0) (pos 9) (2 ∷ []) ++ movement 3 0 (1 ∷ []) []
 

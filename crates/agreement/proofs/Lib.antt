@@ -32,3 +32,15 @@ pub mod Table30
 pub mod Table31
 pub mod Table32
 pub mod Table33
+pub mod Packs01
+pub mod Packs02
+pub mod Packs03
+pub mod Packs04
+pub mod Packs05
+pub mod Packs06
+pub mod Packs07
+pub mod Packs08
+pub mod Packs09
+pub mod Packs10
+pub mod Packs11
+pub mod Packs12

@@ -10,6 +10,7 @@ use Rattle.plan.specs.declared.Answer.{Answer}
 use Rattle.plan.specs.Words.{node, element}
 use Rattle.plan.specs.Answers.{Outcome}
 use Rattle.codec.specs.Plans.{Unpacked, unpack, unpackAnswer, tableAfter}
+use Rattle.packing.specs.Packing.{pack, packAnswer, bytesAfter}
 use Rattle.rules.specs.Rules.{Derived}
 use Rattle.verifier.specs.Check.{check, checkAnswer, derivedAfter, unpackCheck, codeOf}
 use Rattle.verifier.specs.Listing.{listing}
@@ -40,7 +41,7 @@ abbrev pub times : {A : Type 0} → ℕ → List A → List A
 times zero xs = []
 times (suc n) xs = xs ++ times n xs
 
--- a buffer before a call: place k holds 1000 + k, of flags 2 + k % 200; here the n places from k on
+-- a buffer before a call: place k holds 1000 + k, of flags and of bytes 2 + k % 200; here the n places from k on
 abbrev pub freshFrom : ℕ → ℕ → List ℤ
 freshFrom k zero = []
 freshFrom k (suc n) = pos (1000 + k) ∷ freshFrom (suc k) n
@@ -54,6 +55,8 @@ flagsFrom k (suc n) = (2 + k % 200) ∷ flagsFrom (suc k) n
 pub data Call : Type 0 where
   -- bytes, and the table's room
   toUnpack : List ℕ → ℕ → Call
+  -- a table, and the room for bytes
+  toPack : List ℤ → ℕ → Call
   -- a table, and the room for derived words
   toCheck : List ℤ → ℕ → Call
   -- bytes, for the C call that unpacks and checks
@@ -68,6 +71,8 @@ pub data Call : Type 0 where
 pub data Result : Type 0 where
   -- the answer, and the whole buffer of words after the call
   leaves : Answer → List ℤ → Result
+  -- the answer, and the whole buffer of bytes after the call
+  leavesBytes : Answer → List ℕ → Result
   -- the answer, and both whole buffers after the run
   leavesBoth : Answer → List ℤ → List ℕ → Result
   -- the answer; 0 nothing, 1 a place, 2 a gap; the place's node and element
@@ -85,6 +90,9 @@ answer n place count = record { number = n; place = place; count = count }
 abbrev pub unpacked : Outcome Unpacked → ℕ → Result
 unpacked o room = leaves (unpackAnswer o) (tableAfter o (freshFrom 0 room))
 
+abbrev pub packed : Outcome (List ℕ) → ℕ → Result
+packed o room = leavesBytes (packAnswer o) (bytesAfter o (flagsFrom 0 room))
+
 abbrev pub checked : Outcome (List Derived) → ℕ → Result
 checked o room = leaves (checkAnswer o) (derivedAfter o (freshFrom 0 room))
 
@@ -96,6 +104,7 @@ found o = finds (lookupAnswer o) (foundKind o) (foundNode o) (foundElement o)
 
 abbrev pub given : Call → Result
 given (toUnpack s room) = unpacked (unpack s room) room
+given (toPack t room) = packed (pack t room) room
 given (toCheck t room) = checked (check t room) room
 given (toUnpackCheck s) = number (codeOf (unpackCheck s))
 given (toRun t values flags valueRoom flagRoom) = ran (run t values flags valueRoom flagRoom) valueRoom flagRoom

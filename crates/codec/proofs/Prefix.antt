@@ -85,7 +85,7 @@ op-ends q h = q .short 1 (omega arith) (omega arith)
 -- ---- words
 
 -- how many of the words 1, .., k operation op uses: no operation more than nine
-unfoldable used : ℕ → ℕ → ℕ
+unfoldable pub used : ℕ → ℕ → ℕ
 used op zero = 0
 used op (suc k) = used op k + cond (uses op (k + 1)) 1 0
 
@@ -93,7 +93,7 @@ table : allBelow operationCount (λ (op : ℕ). allBelow 17 (λ (k : ℕ). leb (
 unfolding allBelow among uses used
 table = refl
 
-few-used : (op k : ℕ) → op < operationCount → k < 17 → used op k ≤ 9
+pub few-used : (op k : ℕ) → op < operationCount → k < 17 → used op k ≤ 9
 few-used op k h l =
     leb-true (used op k) 9 (all-below 17 (λ (k : ℕ). leb (used op k) 9) (all-below operationCount (λ (op : ℕ). allBelow 17 (λ (k : ℕ). leb (used op k) 9)) table op h) k l)
 

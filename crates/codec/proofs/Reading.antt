@@ -62,12 +62,12 @@ module _ (s : List ℕ) (from at : ℕ) where
     padded zero h q z = absurd (omega arith)
     padded (suc k) h q z = rw (← is) (simp (lt-ltb _ _ l, lt-ltb _ _ q, z))
 
-    last-group : (k : ℕ) → 0 < k → b < 128 → (eqb b 0 && ltb from at) ≡ false → groupsAt k s from at ≡ accepted (record { value = b; next = at + 1 })
+    pub last-group : (k : ℕ) → 0 < k → b < 128 → (eqb b 0 && ltb from at) ≡ false → groupsAt k s from at ≡ accepted (record { value = b; next = at + 1 })
     unfolding groupsAt
     last-group zero h q z = absurd (omega arith)
     last-group (suc k) h q z = rw (← is) (simp (lt-ltb _ _ l, lt-ltb _ _ q, z))
 
-    more-groups : (k : ℕ) → 0 < k → 128 ≤ b → groupsAt k s from at ≡ added (b % 128) 128 (groupsAt (k - 1) s from (at + 1))
+    pub more-groups : (k : ℕ) → 0 < k → 128 ≤ b → groupsAt k s from at ≡ added (b % 128) 128 (groupsAt (k - 1) s from (at + 1))
     unfolding groupsAt
     more-groups zero h q = absurd (omega arith)
     more-groups (suc k) h q = rw (← is, sub-one) (simp (lt-ltb _ _ l, le-ltb _ _ q))

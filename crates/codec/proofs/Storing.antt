@@ -2,12 +2,13 @@
 use Prim.Native.Nat.{ℕ, suc, _+_, _<_}
 use mathlib.Core.Path.{_≡_, refl, ap, _∙_}
 use mathlib.Core.List.{List, [], _∷_, _++_}
-use native.Mathlib.Nat.{add-zero, add-suc, suc-add, not-suc-le-zero}
+use native.Mathlib.Nat.{not-suc-le-zero}
 use native.Mathlib.Numerals.{add-one}
 use native.Mathlib.Omega.{arith}
 use lib.ListN.{length, set}
 use lib.Seq.{sets, set-set}
 use lib.IntN.{ℤ}
+use Rattle.laws.proofs.Pieces.{sets-more}
 use Rattle.plan.specs.Answers.{Outcome, accepted, refused, refuse, andThen, inTurn}
 use Rattle.plan.proofs.Outcomes.{turn-more, turn-stays}
 use Rattle.codec.specs.declared.Step.{Step}
@@ -15,14 +16,7 @@ use Rattle.codec.specs.declared.Step.the-variants.{Next, Stop}
 use Rattle.codec.specs.Plans.{Unpacked}
 use Rattle.codec.specs.Steps.{stepOf, Stands, Wrote}
 
--- values after values, and values over one that was written before
-sets-append : {A : Type 0} (xs ys l : List A) (i : ℕ) → sets (sets l i xs) (i + length xs) ys ≡ sets l i (xs ++ ys)
-sets-append [] ys l i = rw add-zero
-sets-append (x ∷ xs) ys l i = rw (add-suc, ← suc-add) (sets-append xs ys (set l i x) (suc i))
-
-pub sets-more : {A : Type 0} (l : List A) {mid after : List A} (i : ℕ) {place : ℕ} (xs ys : List A) → mid ≡ sets l i xs → place ≡ i + length xs → after ≡ sets mid place ys → after ≡ sets l i (xs ++ ys)
-sets-more l i xs ys e q h = h ∙ rw (e, q) (sets-append xs ys l i)
-
+-- values over one that was written before
 pub sets-over : (l : List ℤ) (i : ℕ) (a : ℤ) (vs : List ℤ) → 0 < length vs → sets (set l i a) i vs ≡ sets l i vs
 sets-over l i a [] h = absurd (not-suc-le-zero h)
 sets-over l i a (v ∷ vs) h = rw set-set

@@ -13,7 +13,7 @@ pub enum Number {
     Broken(usize, usize),
 }
 
-// What reading words finds: the position after them, or a refusal and its place.
+// What reading or writing words finds: the position after them, or a refusal and its place.
 pub enum Step {
     Next(usize),
     Stop(usize, usize),

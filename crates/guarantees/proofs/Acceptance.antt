@@ -9,10 +9,9 @@ use lib.IntN.{ℤ}
 use lib.Dec.{eqb}
 use lib.ListN.{length}
 use Rattle.laws.proofs.Booleans.{bool-cases, and-true, and-true-of}
-use Rattle.plan.specs.Words.{nodeCount}
+use Rattle.plan.specs.Words.{nodeCount, lengthRight}
 use Rattle.plan.specs.Answers.{Refusal}
 use Rattle.rules.specs.Rules.{Derived}
-use Rattle.verifier.specs.Check.{lengthRight}
 use Rattle.verifier.specs.Meets.{NodesMeet, PlanMeets}
 use Rattle.verifier.specs.Meets as meets
 use Rattle.verifier.proofs.Numbers.{few-nodes}
@@ -28,11 +27,11 @@ module _ (t : List ℤ) where
       let few = few-nodes t e in
       record { words = omega (arith, eqb-true (length t % 17) 0 (and-true (eqb (length t % 17) 0) _ e .0)); some = few .0; few = few .1 }
 
-  counted : (m : ℕ) → Nodes t m → nodeCount t ≡ m
+  pub counted : (m : ℕ) → Nodes t m → nodeCount t ≡ m
   unfolding nodeCount
   counted m w = omega (arith, w .words)
 
-  right : (m : ℕ) → Nodes t m → lengthRight t ≡ true
+  pub right : (m : ℕ) → Nodes t m → lengthRight t ≡ true
   unfolding lengthRight nodeCount
   right m w =
       let c = counted m w in

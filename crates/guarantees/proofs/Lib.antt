@@ -14,6 +14,7 @@ pub mod Values
 pub mod Refusals
 pub mod Packed
 pub mod Unpacks
+pub mod Packs
 pub mod Demands
 pub mod Runs
 pub mod Premises

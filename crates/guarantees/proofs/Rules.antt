@@ -18,13 +18,13 @@ use Rattle.plan.specs.declared.Interval.{Interval}
 use Rattle.plan.specs.declared.NodeNumber.{NodeNumber}
 use Rattle.plan.specs.Operations.{uses}
 use Rattle.plan.specs.Types.{holds, contains, rangeOf}
-use Rattle.plan.specs.Words.{sizeOf, nodeAt, paramsBefore, listOf}
+use Rattle.plan.specs.Words.{sizeOf, nodeAt, paramsBefore, listOf, unusedZero}
 use Rattle.shapes.specs.Rows.{isShapeRow, isFlagRow, isOffsetRow, isPermutation}
 use Rattle.shapes.specs.Rules.{shapesAgree}
 use Rattle.plan.proofs.ByOperation.{_then_, for-range}
 use Rattle.plan.proofs.Decoding.{word-at}
 use Rattle.bounds.proofs.Sound.{held, holding}
-use Rattle.rules.specs.Rules.{Derived, sourceOf, implies, unusedZero, sourcesEarlier, typeNamed, typesAgree, deviceNamed, paramRight, rowsRight, shapeRight, oneDevice, joinDevice, devicesAgree, divisorRight, boundsInType, derivedOf}
+use Rattle.rules.specs.Rules.{Derived, sourceOf, implies, sourcesEarlier, typeNamed, typesAgree, deviceNamed, paramRight, rowsRight, shapeRight, oneDevice, joinDevice, devicesAgree, divisorRight, boundsInType, derivedOf}
 use Rattle.rules.proofs.RowRule.{rows-const, rows-param, rows-permute, rows-flip, rows-shape, rows-offset, rows-any, rows-reduce, rows-load}
 use Rattle.rules.proofs.TypeRule.{types-any, types-arithmetic, types-differ, types-logical, types-where, types-reduce, types-load}
 use Rattle.verifier.specs.Check.{first, second, third, deriveNode}

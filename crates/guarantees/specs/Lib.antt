@@ -13,5 +13,6 @@ pub mod Records
 pub mod Runs
 pub mod Checks
 pub mod Unpacks
+pub mod Packs
 pub mod Whole
 pub mod Witnesses

@@ -10,6 +10,7 @@ use Rattle.plan.specs.declared.NodeNumber.{NodeNumber}
 use Rattle.plan.specs.declared.ElementNumber.{ElementNumber}
 use Rattle.plan.specs.Answers.{Refusal, refused}
 use Rattle.codec.specs.Plans.{unpack, unpackAnswer, tableAfter}
+use Rattle.packing.specs.Packing.{pack, packAnswer, bytesAfter}
 use Rattle.verifier.specs.Check.{check, checkAnswer, derivedAfter}
 use Rattle.runner.specs.Run.{run, runAnswer, valuesAfter, flagsAfter}
 use Rattle.lookup.specs.declared.Reply.{Reply}
@@ -32,6 +33,8 @@ pub record TellsNothing (r : Refusal) (a : Reply) : Type 0 where
 pub record RefusalsKeep : Type 0 where
   pub of-unpack : (s : List ℕ) (table : List ℤ) (r : Refusal) → unpack s (length table) ≡ refused r
       → Tells r (unpackAnswer (unpack s (length table))) × (tableAfter (unpack s (length table)) table ≡ table)
+  pub of-pack : (t : List ℤ) (bytes : List ℕ) (r : Refusal) → pack t (length bytes) ≡ refused r
+      → Tells r (packAnswer (pack t (length bytes))) × (bytesAfter (pack t (length bytes)) bytes ≡ bytes)
   pub of-check : (t derived : List ℤ) (r : Refusal) → check t (length derived) ≡ refused r
       → Tells r (checkAnswer (check t (length derived))) × (derivedAfter (check t (length derived)) derived ≡ derived)
   pub of-run : (t values : List ℤ) (flags : List ℕ) (v : List ℤ) (f : List ℕ) (r : Refusal) → run t values flags (length v) (length f) ≡ refused r

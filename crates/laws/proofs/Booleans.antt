@@ -1,8 +1,8 @@
 -- Tests: what a conjunction, a disjunction, a choice and a test of all numbers below n say.
 use Prim.Native.Nat.{ℕ, zero, suc, _<_, suc-le-suc}
 use native.Mathlib.Nat.{not-suc-le-zero, le-of-suc-le-suc, zero-lt-suc}
-use mathlib.Core.Path.{_≡_, refl}
-use mathlib.Core.Bool.{Bool, true, false, _&&_, _||_, cond, false≢true}
+use mathlib.Core.Path.{_≡_, refl, sym}
+use mathlib.Core.Bool.{Bool, true, false, _&&_, _||_, not, cond, false≢true, true≢false}
 use Rattle.laws.specs.Lists.{allBelow}
 
 -- by the value of a test
@@ -26,6 +26,15 @@ and-true-of b c p q = rw (p, q)
 pub or-true : {G : Type 0} (b c : Bool) → (b || c) ≡ true → (b ≡ true → G) → (c ≡ true → G) → G
 or-true true c e f g = f refl
 or-true false c e f g = g e
+
+-- a test that failed, and one that held, by a local of its value
+pub off : {t : Bool} (r : Bool) → r ≡ t → not r ≡ true → t ≡ false
+off true e f = absurd (false≢true f)
+off false e f = sym e
+
+pub on : {t : Bool} (r : Bool) → r ≡ t → not r ≡ false → t ≡ true
+on true e f = sym e
+on false e f = absurd (true≢false f)
 
 -- all numbers below n
 pub all-below : (n : ℕ) (p : ℕ → Bool) → allBelow n p ≡ true → (k : ℕ) → k < n → p k ≡ true

@@ -10,4 +10,5 @@ pub mod Machine
 pub mod Sums
 pub mod Numbering
 pub mod Store
+pub mod Pieces
 pub mod Induction

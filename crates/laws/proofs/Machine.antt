@@ -3,9 +3,11 @@ use mathlib.Core.Path.{_≡_, sym, ap, _∙_}
 use mathlib.Core.Bool.{Bool, true, false}
 use Prim.Native.Nat.{ℕ, suc, _+_, _*_, _^_, _≤_, _<_, max}
 use native.Mathlib.Nat.{mul-le-mul, lt-of-le-of-lt}
+use native.Mathlib.Numerals.{sub-one}
 use native.Mathlib.Omega.{arith}
+use borrow.Author.Tests.{le-ltb, ltb-true}
 use lib.Dec.{T, ltb, lit<}
-use lib.IntN.{ℤ, pos, negsuc, natAbs, _*ℤ_}
+use lib.IntN.{ℤ, pos, negsuc, natAbs, _-ℤ_, _*ℤ_}
 use lib.Signed.{mag, ltZ, leZ, _≤ℤ_, nonNeg, yes-nonNeg, pos-natAbs}
 use mir.Facts.{toZ-ofZ, fits-natAbs}
 use mir.Syntax.{Width, w64}
@@ -106,3 +108,24 @@ cast-index {z} f h = rw (R-is f) (yes-nonNeg {z = z} (of-le (ltZ-false z (pos 0)
 
 pub cast-value : {z : ℤ} → SFits w64 z → pos 0 ≤ℤ z → pos (natAbs (R z)) ≡ z
 cast-value {z} f h = rw (R-is f) (pos-natAbs z (yes-nonNeg h))
+
+-- -1 - z of a number below 0, as the code computes it
+flip : (z : ℤ) → ltZ z (pos 0) ≡ true → negsuc 0 -ℤ z ≡ pos (mag z)
+flip (pos n) h = absurd (omega (arith, ltb-true n 0 h))
+flip (negsuc n) h = simp (le-ltb (suc n) 1 (omega arith), sub-one)
+
+module _ {z : ℤ} (f : SFits w64 z) (h : ltZ (R z) (pos 0) ≡ true) where
+  pub read-below : ltZ z (pos 0) ≡ true
+  read-below = rw (R-is f) at h
+
+  mag-fits : SFits w64 (pos (mag z))
+  mag-fits = record { sfits = f .sfits }
+
+  pub flip-fits : SFits w64 (negsuc 0 -ℤ R z)
+  flip-fits = rw (R-is f, flip z read-below) mag-fits
+
+  pub flip-is : R (negsuc 0 -ℤ R z) ≡ pos (mag z)
+  flip-is = rw (R-is f, flip z read-below) (R-is mag-fits)
+
+  pub flip-cast : T (nonNeg (R (negsuc 0 -ℤ R z))) × Fits w64 (natAbs (R (negsuc 0 -ℤ R z)))
+  flip-cast = rw flip-is (tt, record { fits = omega (arith, f .sfits) })

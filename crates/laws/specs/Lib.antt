@@ -2,3 +2,4 @@ pub mod Integers
 pub mod Lists
 pub mod Numbering
 pub mod Store
+pub mod Pieces

@@ -1,4 +1,3 @@
-pub mod Pieces
 pub mod Numbers
 pub mod Shapes
 pub mod Nodes

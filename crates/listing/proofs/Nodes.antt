@@ -19,8 +19,9 @@ use Rattle.rules.specs.Rules.{Derived, noSource}
 use Rattle.rules.specs.Code.{viewOf}
 use Rattle.verifier.specs.Listing.{decimal, signed, shapeText, nodeLine, textOf, header, acceptedWord, space, lineFeed}
 use Rattle.verifier.proofs.Writing.{low-is, high-is}
-use Rattle.listing.specs.Text.{Writes, linesOf}
-use Rattle.listing.proofs.Pieces.{then, within, said, nothing}
+use Rattle.laws.specs.Pieces.{Writes}
+use Rattle.listing.specs.Text.{linesOf}
+use Rattle.laws.proofs.Pieces.{then, within, said, nothing}
 
 -- one line, with the bounds as one piece
 pieces : (a b c d : List ℕ) → a ++ (b ++ c) ++ d ≡ a ++ b ++ c ++ d

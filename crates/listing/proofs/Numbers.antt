@@ -3,18 +3,17 @@ use Prim.Native.Nat.{ℕ, suc, _+_, _/_, _%_, _≤_, _<_}
 use mathlib.Core.Path.{_≡_, refl}
 use mathlib.Core.Bool.{true, false}
 use mathlib.Core.List.{List, [], _∷_}
-use native.Mathlib.Numerals.{add-one, sub-one}
+use native.Mathlib.Numerals.{add-one}
 use native.Mathlib.Omega.{arith}
 use borrow.Author.Tests.{lt-ltb, le-ltb, ltb-true}
-use lib.Dec.{T}
 use lib.IntN.{ℤ, pos, negsuc, _-ℤ_, natAbs}
-use lib.Signed.{mag, ltZ, nonNeg}
+use lib.Signed.{mag, ltZ}
 use mir.Syntax.{w64}
 use mir.Val.{SFits, Fits}
-use Rattle.laws.proofs.Machine.{R, R-is}
+use Rattle.laws.proofs.Machine.{R, R-is, read-below, flip-is}
 use Rattle.verifier.specs.Listing.{digits, decimal, signed, minus}
-use Rattle.listing.specs.Text.{Writes}
-use Rattle.listing.proofs.Pieces.{then, within, nothing}
+use Rattle.laws.specs.Pieces.{Writes}
+use Rattle.laws.proofs.Pieces.{then, within, nothing}
 
 -- ---- digits, the last one after the others
 
@@ -34,10 +33,6 @@ module _ (k n j : ℕ) (e : k ≡ suc j) {before after : List ℕ} {at next : �
 
 -- ---- signed numbers
 
-flip : (z : ℤ) → ltZ z (pos 0) ≡ true → negsuc 0 -ℤ z ≡ pos (mag z)
-flip (pos n) h = absurd (omega (arith, ltb-true n 0 h))
-flip (negsuc n) h = simp (le-ltb (suc n) 1 (omega arith), sub-one)
-
 signed-below : (z : ℤ) → ltZ z (pos 0) ≡ true → minus ∷ decimal (mag z + 1) ≡ signed z
 unfolding signed
 signed-below (pos n) h = absurd (omega (arith, ltb-true n 0 h))
@@ -50,26 +45,11 @@ signed-from (negsuc n) h = let e : _≡_ {A = ℕ} 0 1 = cc in absurd (omega ari
 
 -- -1 - z of a number below 0, as the code computes it
 module _ {z : ℤ} (f : SFits w64 z) (h : ltZ (R z) (pos 0) ≡ true) where
-  below : ltZ z (pos 0) ≡ true
-  below = rw (R-is f) at h
-
-  mag-fits : SFits w64 (pos (mag z))
-  mag-fits = record { sfits = f .sfits }
-
-  pub flip-fits : SFits w64 (negsuc 0 -ℤ R z)
-  flip-fits = rw (R-is f, flip z below) mag-fits
-
-  flip-is : R (negsuc 0 -ℤ R z) ≡ pos (mag z)
-  flip-is = rw (R-is f, flip z below) (R-is mag-fits)
-
-  pub flip-cast : T (nonNeg (R (negsuc 0 -ℤ R z))) × Fits w64 (natAbs (R (negsuc 0 -ℤ R z)))
-  flip-cast = rw flip-is (tt, record { fits = omega (arith, f .sfits) })
-
   pub flip-next : Fits w64 (natAbs (R (negsuc 0 -ℤ R z)) + 1)
-  flip-next = rw flip-is (record { fits = omega (arith, f .sfits) })
+  flip-next = rw (flip-is f h) (record { fits = omega (arith, f .sfits) })
 
   pub minus-is : minus ∷ decimal (natAbs (R (negsuc 0 -ℤ R z)) + 1) ≡ signed z
-  minus-is = rw flip-is (signed-below z below)
+  minus-is = rw (flip-is f h) (signed-below z (read-below f h))
 
 pub plain-is : {z : ℤ} → SFits w64 z → ltZ (R z) (pos 0) ≡ false → decimal (natAbs (R z)) ≡ signed z
 plain-is {z} f h = rw (R-is f) (signed-from z (rw (R-is f) at h))

@@ -21,7 +21,8 @@ use Rattle.verifier.proofs.Accepted.{accepted-meets}
 use Rattle.verifier.specs.Verdicts.{Ends}
 use Rattle.verifier.proofs.Ending.{counted}
 use Rattle.verifier.proofs.Packed.{stop-is, words-are}
-use Rattle.listing.specs.Text.{Writes, checkedOf, textWith}
+use Rattle.laws.specs.Pieces.{Writes}
+use Rattle.listing.specs.Text.{checkedOf, textWith}
 
 -- a table that is refused, and one that is accepted
 module _ (t : List ℤ) {v : Derivation} (d : Ends t v) where

@@ -1,24 +1,16 @@
--- How the code writes a piece of the listing's text, and the text with the room that it asks for.
-use Prim.Native.Nat.{ℕ, _+_, _≤_}
-use mathlib.Core.Path.{_≡_}
+-- The listing's lines, and the text with the room that it asks for.
+use Prim.Native.Nat.{ℕ}
 use mathlib.Core.Bool.{cond}
 use mathlib.Core.List.{List, []}
 use lib.Dec.{leb}
 use lib.IntN.{ℤ}
-use lib.ListN.{length, getD}
-use lib.Seq.{sets}
+use lib.ListN.{getD}
 use Rattle.laws.specs.Lists.{tab, concat}
 use Rattle.plan.specs.Words.{nodeAt}
 use Rattle.plan.specs.Answers.{Outcome, accepted, andThen}
 use Rattle.rules.specs.Rules.{Derived, noSource}
 use Rattle.verifier.specs.Check.{Checked, verdict}
 use Rattle.verifier.specs.Listing.{nodeLine, listing}
-
--- the bytes ws, at most so many, stand from place `at` on, and the next piece goes to place `next`
-pub record Writes (ws : List ℕ) (most : ℕ) (before : List ℕ) (at : ℕ) (after : List ℕ) (next : ℕ) : Type 0 where
-  pub stands : after ≡ sets before at ws
-  pub is-next : next ≡ at + length ws
-  pub short : length ws ≤ most
 
 -- the lines of the first `count` nodes of a table, whose records are ds
 abbrev pub linesOf : List ℤ → List Derived → ℕ → List ℕ

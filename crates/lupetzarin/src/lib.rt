@@ -4,15 +4,16 @@ ghost use mathlib.Core.Path.{_≡_};
 ghost use lib.ListN.{length};
 ghost use Rattle.codec.specs.Plans.{unpack, unpackAnswer, tableAfter};
 ghost use Rattle.lookup.specs.Following.{lookup, replyOf};
+ghost use Rattle.packing.specs.Packing.{pack, packAnswer, bytesAfter};
 ghost use Rattle.runner.specs.Run.{run, runAnswer, valuesAfter, flagsAfter};
 ghost use Rattle.verifier.specs.Check.{check, checkAnswer, derivedAfter, unpackCheck, codeOf};
 
-// The version of this library, 4.0.0: 1000000 times the major number, 1000 times the minor one, and the patch. The macros of the header say the same.
+// The version of this library, 4.1.0: 1000000 times the major number, 1000 times the minor one, and the patch. The macros of the header say the same.
 #[no_mangle]
 pub extern "C" fn lup_version() -> u64
-    ensures { λ r. ⌜ r ≡ 1000000 * 4 + 1000 * 0 + 0 ⌝ }
+    ensures { λ r. ⌜ r ≡ 1000000 * 4 + 1000 * 1 + 0 ⌝ }
 {
-    4000000
+    4001000
 }
 
 // A packed plan into a table, which stays as it was where the plan is refused.
@@ -21,6 +22,14 @@ pub extern "C" fn lup_unpack(bytes: &[u8], table: &mut [i64]) -> plan::Answer
     ensures { λ r. ⌜ (r ≡ unpackAnswer (unpack (now (bytes .entry)) (length (now (table .entry))))) × (now (table .exit) ≡ tableAfter (unpack (now (bytes .entry)) (length (now (table .entry)))) (now (table .entry))) ⌝ }
 {
     codec::unpack(bytes, table)
+}
+
+// A table into packed bytes, which stay as they were where it is refused.
+#[no_mangle]
+pub extern "C" fn lup_pack(table: &[i64], bytes: &mut [u8]) -> plan::Answer
+    ensures { λ r. ⌜ (r ≡ packAnswer (pack (now (table .entry)) (length (now (bytes .entry))))) × (now (bytes .exit) ≡ bytesAfter (pack (now (table .entry)) (length (now (bytes .entry)))) (now (bytes .entry))) ⌝ }
+{
+    packing::pack(table, bytes)
 }
 
 // The check of a plan and eight words a node into `derived`, which stays as it was where the plan is refused.

@@ -3,3 +3,4 @@ pub mod Decoding
 pub mod ByOperation
 pub mod Outcomes
 pub mod Facts
+pub mod UnusedWords

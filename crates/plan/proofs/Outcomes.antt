@@ -2,10 +2,11 @@
 use Prim.Native.Nat.{ℕ, zero, suc, _+_, _≤_, _<_}
 use mathlib.Core.Path.{_≡_, refl, ap, sym, _∙_}
 use mathlib.Core.Bool.{Bool, true, false, cond, false≢true, true≢false}
-use mathlib.Core.Logic.{⊎-elim}
+use mathlib.Core.Logic.{_⊎_, inl, inr, ⊎-elim}
 use mathlib.Core.List.{List, [], _∷_, _++_}
 use native.Mathlib.Omega.{arith}
 use native.Mathlib.Nat.{eq-or-lt-of-le, not-suc-le-zero, le-of-suc-le-suc}
+use lib.ListN.{length}
 use Rattle.plan.specs.Answers.{Refusal, Outcome, accepted, refused, refuse, need, andThen, inTurn, Rule, rule, inOrder, AllHold, FirstFailing, here, later}
 
 -- ---- one outcome is not two
@@ -111,12 +112,20 @@ turn-same {A} step other start (suc m) h =
 
 -- ---- rules in order
 
--- the first rule fails, or it holds and a later one is the first that fails
+-- the first rule fails, or it holds and a later one is the first that fails; there is such a one
 pub fails-here : {number : ℕ} {rules : List Rule} (test : Bool) → test ≡ false → FirstFailing (rule number test ∷ rules) number
 fails-here test e = rw e here
 
 pub holds-then : {number failing : ℕ} {rules : List Rule} (test : Bool) → test ≡ true → FirstFailing rules failing → FirstFailing (rule number test ∷ rules) failing
 holds-then test e f = rw e (later f)
+
+pub some-rule : (rules : List Rule) {k : ℕ} → FirstFailing rules k → 0 < length rules
+some-rule (rule number false ∷ rules) here = omega arith
+some-rule (rule number true ∷ rules) (later w) = omega arith
+
+pub fails-cases : (number : ℕ) (test : Bool) (rules : List Rule) (k : ℕ) → FirstFailing (rule number test ∷ rules) k → ((test ≡ false) × (k ≡ number)) ⊎ ((test ≡ true) × FirstFailing rules k)
+fails-cases number false rules k here = inl (refl, refl)
+fails-cases number true rules k (later w) = inr (refl, w)
 
 -- rules after rules
 pub first-front : {failing : ℕ} {rules : List Rule} (more : List Rule) → FirstFailing rules failing → FirstFailing (rules ++ more) failing

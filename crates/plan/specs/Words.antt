@@ -1,16 +1,16 @@
 -- The words of a node.
-use Prim.Native.Nat.{ℕ, zero, suc, _+_, _*_, _/_}
-use mathlib.Core.Bool.{Bool, true, false, cond}
+use Prim.Native.Nat.{ℕ, zero, suc, _+_, _*_, _/_, _%_}
+use mathlib.Core.Bool.{Bool, true, false, _&&_, _||_, cond}
 use mathlib.Core.List.{List, [], _∷_}
 use lib.IntN.{ℤ, pos, negsuc}
-use lib.Dec.{eqb}
+use lib.Dec.{eqb, leb}
 use lib.ListN.{length, getD, take, drop}
-use Rattle.laws.specs.Lists.{tab, sum}
+use Rattle.laws.specs.Lists.{tab, sum, allBelow}
 use Rattle.plan.specs.declared.NodeNumber.{NodeNumber}
 use Rattle.plan.specs.declared.ElementNumber.{ElementNumber}
 use Rattle.plan.specs.declared.Row.{Row}
 use Rattle.plan.specs.declared.Node.{Node}
-use Rattle.plan.specs.Operations.{PARAM}
+use Rattle.plan.specs.Operations.{PARAM, uses}
 
 -- "A plan is a table of 1 to 256 nodes, each of 17 signed 64-bit words."
 abbrev pub wordsPerNode : ℕ
@@ -71,6 +71,14 @@ nodeAt t n = nodeOf (wordsOf t n)
 -- how many nodes a table has
 unfoldable pub nodeCount : List ℤ → ℕ
 nodeCount t = length t / wordsPerNode
+
+-- "1: length no multiple of 17, or not 1..256 nodes"
+unfoldable pub lengthRight : List ℤ → Bool
+lengthRight t = eqb (length t % wordsPerNode) 0 && (leb 1 (nodeCount t) && leb (nodeCount t) nodeLimit)
+
+-- "3: unused word not zero". Word 0 is the operation and never unused.
+unfoldable pub unusedZero : ℕ → List ℤ → Bool
+unusedZero op w = allBelow wordsPerNode (λ (k : ℕ). eqb k 0 || (uses op k || eqb (sizeOf (wordAt w k)) 0))
 
 -- x where node n is a PARAM, else 0; and the sum of f over the PARAMs before node n
 abbrev pub ifParam : List ℤ → ℕ → ℕ → ℕ

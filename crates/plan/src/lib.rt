@@ -5,7 +5,7 @@ ghost use lib.Dec.{eqb};
 ghost use lib.ListN.{length, getD};
 ghost use Rattle.plan.specs.Operations.{masks};
 ghost use Rattle.plan.specs.Types.{rangeOf};
-ghost use Rattle.plan.specs.Words.{sizeOf, sizeAt, rowAt, nodeOf, nodeAt};
+ghost use Rattle.plan.specs.Words.{sizeOf, sizeAt, rowAt, nodeOf, nodeAt, lengthRight, unusedZero};
 
 // The number of a node in its plan. Never taken for an element number.
 pub struct NodeNumber(pub usize);
@@ -174,6 +174,29 @@ pub fn node_at(table: &[i64], n: usize) -> Node
     let start = 17 * n;
     let end = start + 17;
     node_of(&table[start..end])
+}
+
+// Rule 1: 1 to 256 nodes of 17 words.
+pub fn length_right(table: &[i64]) -> bool
+    ensures { λ r. ⌜ r ≡ lengthRight (now (table .entry)) ⌝ }
+{
+    let words = table.len();
+    let count = words / 17;
+    (words % 17 == 0) & ((1 <= count) & (count <= 256))
+}
+
+// Rule 3: the words that the operation does not use are zero.
+pub fn unused_zero(op: usize, mask: usize, words: &[i64]) -> bool
+    requires { ⌜ (op < 21) × (mask ≡ getD masks op 0) × (length (now words) ≡ 17) ⌝ }
+    ensures { λ r. ⌜ r ≡ unusedZero op (now (words .entry)) ⌝ }
+{
+    let mut zero = true;
+    let mut k = 1;
+    while k < 17 {
+        zero = zero & (uses_word(mask, k) | (size_of_word(words[k]) == 0));
+        k += 1;
+    }
+    zero
 }
 
 // The answer of a call that accepts.

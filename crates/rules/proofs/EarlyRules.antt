@@ -9,49 +9,19 @@ use lib.IntN.{ℤ}
 use borrow.Author.Tests.{le-ltb, lt-ltb}
 use lib.Dec.{eqb, ltb, eqb·suc-zero}
 use Rattle.laws.specs.Lists.{allBelow}
-use Rattle.laws.proofs.Booleans.{all-below-snoc}
+use Rattle.laws.proofs.Booleans.{all-below-snoc, off, on}
 use Rattle.plan.specs.Operations.{uses}
 use Rattle.plan.specs.declared.Node.{Node}
-use Rattle.plan.specs.Words.{sizeOf, wordAt, wordsOf, nodeAt}
+use Rattle.plan.specs.Words.{wordsOf, nodeAt, unusedZero}
 use Rattle.plan.specs.Answers.{FirstFailing}
 use Rattle.plan.proofs.Outcomes.{fails-here, holds-then}
 use Rattle.plan.proofs.Masks.{mask-bit}
-use Rattle.rules.specs.Rules.{unusedZero, sourcesEarlier}
+use Rattle.rules.specs.Rules.{sourcesEarlier}
 use Rattle.rules.specs.Code.{Masked, earlyRulesOf, Early}
-
--- a test that failed, and one that held
-pub off : {t : Bool} (r : Bool) → r ≡ t → not r ≡ true → t ≡ false
-off true e f = absurd (false≢true f)
-off false e f = sym e
-
-pub on : {t : Bool} (r : Bool) → r ≡ t → not r ≡ false → t ≡ true
-on true e f = sym e
-on false e f = absurd (true≢false f)
 
 -- a mask's bit says whether the operation uses the word
 pub bit-uses : {op mask : ℕ} (k : ℕ) → Masked op mask → k < 17 → eqb (mask / 2 ^ k % 2) 1 ≡ uses op k
 bit-uses k m h = rw (m .is-mask) (mask-bit _ k (m .known) h)
-
--- word k is used or zero
-abbrev pub usedOrZero : ℕ → List ℤ → ℕ → Bool
-usedOrZero op w k = eqb k 0 || (uses op k || eqb (sizeOf (wordAt w k)) 0)
-
--- one word more, as the loop asks for it
-pub zero-more : {op mask : ℕ} (w : List ℤ) (k : ℕ) (so-far bit word : Bool) → Masked op mask → 1 ≤ k → k < 17
-    → so-far ≡ allBelow k (usedOrZero op w) → bit ≡ eqb (mask / 2 ^ k % 2) 1 → word ≡ eqb (sizeOf (wordAt w k)) 0
-    → (so-far && (bit || word)) ≡ allBelow (k + 1) (usedOrZero op w)
-zero-more {op} w (suc k) so-far bit word m l h e b q =
-    rw (add-one, all-below-snoc (suc k) (usedOrZero op w), e, b, q, bit-uses (suc k) m h, eqb·suc-zero) refl
-
--- no word before the first: word 0 is the operation
-pub zero-none : (op : ℕ) (w : List ℤ) → true ≡ allBelow 1 (usedOrZero op w)
-unfolding allBelow
-zero-none op w = refl
-
--- all seventeen words
-pub zero-done : (op : ℕ) (w : List ℤ) (k : ℕ) (so-far : Bool) → k ≤ 17 → 17 ≤ k → so-far ≡ allBelow k (usedOrZero op w) → so-far ≡ unusedZero op w
-unfolding unusedZero
-zero-done op w k so-far l h e = let q : k ≡ 17 = omega arith in rw q at e
 
 -- ---- rules 2 to 4 together, from the tests that the code makes in turn
 

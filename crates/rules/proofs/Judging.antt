@@ -9,7 +9,7 @@ use lib.IntN.{pos}
 use lib.ListN.{length}
 use Rattle.laws.specs.Lists.{among}
 use Rattle.laws.specs.Numbering.{count}
-use Rattle.laws.proofs.Booleans.{and-true}
+use Rattle.laws.proofs.Booleans.{and-true, off, on}
 use Rattle.plan.specs.declared.Interval.{Interval}
 use Rattle.plan.specs.declared.Node.{Node}
 use Rattle.plan.specs.Operations.{PAD, SHRINK, operationCount, byOperation}
@@ -30,7 +30,6 @@ use Rattle.rules.specs.declared.Shaped.{Shaped}
 use Rattle.rules.specs.declared.Shaped.the-variants.{Fits, Misfits}
 use Rattle.rules.specs.declared.Judged.{Judged}
 use Rattle.rules.specs.declared.Judged.the-variants.{Meets, Breaks}
-use Rattle.rules.proofs.EarlyRules.{off, on}
 use Rattle.rules.specs.Code.{shapeRulesOf, valueRulesOf, Shapes, Ready, Values, Judges}
 
 -- ---- what rule 7 leaves for the shape rules

@@ -9,7 +9,7 @@ use lib.ListN.{getD, length}
 use Rattle.laws.specs.Numbering.{count}
 use Rattle.plan.specs.declared.Node.{Node}
 use Rattle.plan.specs.Operations.{REDUCE, masks, operationCount}
-use Rattle.plan.specs.Words.{listOf, wordsOf, nodeAt}
+use Rattle.plan.specs.Words.{listOf, wordsOf, nodeAt, unusedZero}
 use Rattle.plan.specs.Answers.{Rule, rule, AllHold, FirstFailing}
 use Rattle.shapes.specs.declared.Shape.{Shape}
 use Rattle.shapes.specs.Rules.{elementLimit, resultExtents}
@@ -21,7 +21,7 @@ use Rattle.rules.specs.declared.Shaped.{Shaped}
 use Rattle.rules.specs.declared.Shaped.the-variants.{Fits, Misfits}
 use Rattle.rules.specs.declared.Judged.{Judged}
 use Rattle.rules.specs.declared.Judged.the-variants.{Meets, Breaks}
-use Rattle.rules.specs.Rules.{Derived, unusedZero, sourcesEarlier, typeNamed, typesAgree, rowsRight, shapeRight, devicesAgree, divisorRight, resultDevice, resultType, boundsInType, derivedOf}
+use Rattle.rules.specs.Rules.{Derived, sourcesEarlier, typeNamed, typesAgree, rowsRight, shapeRight, devicesAgree, divisorRight, resultDevice, resultType, boundsInType, derivedOf}
 
 -- the mask of an operation that is there
 pub record Masked (op mask : ℕ) : Type 0 where

@@ -6,14 +6,14 @@ use lib.IntN.{ℤ, pos}
 use lib.Signed.{leZ}
 use lib.Dec.{eqb, ltb, leb}
 use lib.ListN.{getD, length}
-use Rattle.laws.specs.Lists.{allBelow, among}
+use Rattle.laws.specs.Lists.{among}
 use Rattle.laws.specs.Numbering.{count}
 use Rattle.plan.specs.declared.NodeNumber.{NodeNumber}
 use Rattle.plan.specs.declared.Interval.{Interval}
 use Rattle.plan.specs.declared.Node.{Node}
 use Rattle.plan.specs.Operations.{CONST, PARAM, PERMUTE, FLIP, RESHAPE, EXPAND, PAD, SHRINK, CAST, IDIV, MOD, CMPLT, CMPNE, WHERE, REDUCE, LOAD, operationCount, uses, movements, arithmetic, comparisons, logical, binaries, Entry, _⇒_, byOperation}
 use Rattle.plan.specs.Types.{between, holds, contains, bool, rangeOf}
-use Rattle.plan.specs.Words.{wordsPerNode, wordAt, sizeOf, listOf, nodeOf}
+use Rattle.plan.specs.Words.{sizeOf, listOf, nodeOf, unusedZero}
 use Rattle.plan.specs.Answers.{Rule, rule}
 use Rattle.shapes.specs.Rows.{isShapeRow, isFlagRow, isOffsetRow, isPermutation}
 use Rattle.shapes.specs.Rules.{elementLimit, shapesAgree, resultExtents}
@@ -36,10 +36,6 @@ sourceOf earlier op k n = cond (uses op k) (getD earlier (n .0) noSource) noSour
 
 abbrev pub implies : Bool → Bool → Bool
 implies p q = not p || q
-
--- "3: unused word not zero". Word 0 is the operation and never unused.
-unfoldable pub unusedZero : ℕ → List ℤ → Bool
-unusedZero op w = allBelow wordsPerNode (λ (k : ℕ). eqb k 0 || (uses op k || eqb (sizeOf (wordAt w k)) 0))
 
 -- "4: source negative or not earlier"; n is the node's own number. "Sources are numbers of earlier nodes."
 unfoldable pub sourcesEarlier : Node → ℕ → Bool

@@ -1,7 +1,7 @@
 // The rules of one node, and what is derived of it.
 ghost use mathlib.Core.Path.{_≡_};
 ghost use Prim.Native.Nat.{ℕ, _+_, _*_, _≤_, _<_};
-ghost use Rattle.rules.specs.Rules.{typesAgree, oneDevice, joinDevice, devicesAgree, deviceNamed, paramRight, unusedZero, sourcesEarlier, typeNamed, rowsRight, noSource, divisorRight};
+ghost use Rattle.rules.specs.Rules.{typesAgree, oneDevice, joinDevice, devicesAgree, deviceNamed, paramRight, sourcesEarlier, typeNamed, rowsRight, noSource, divisorRight};
 ghost use lib.ListN.{length, getD};
 ghost use Rattle.plan.specs.Operations.{masks};
 ghost use Rattle.plan.specs.Words.{nodeAt};
@@ -119,20 +119,6 @@ fn param_right(x: Node, k: usize) -> bool
     let low = x.low;
     let high = x.high;
     ((plan::size_of_word(slot) == k) & (k <= 15)) & (low <= high)
-}
-
-// Rule 3: the words that the operation does not use are zero.
-fn unused_zero(op: usize, mask: usize, words: &[i64]) -> bool
-    requires { ⌜ (Masked op mask) × (length (now words) ≡ 17) ⌝ }
-    ensures { λ r. ⌜ r ≡ unusedZero op (now (words .entry)) ⌝ }
-{
-    let mut zero = true;
-    let mut k = 1;
-    while k < 17 {
-        zero = zero & (plan::uses_word(mask, k) | (plan::size_of_word(words[k]) == 0));
-        k += 1;
-    }
-    zero
 }
 
 // Rule 4: the sources that are used are numbers of earlier nodes.
@@ -354,7 +340,7 @@ pub fn early(table: &[i64], i: usize, x: Node, mask: usize) -> usize
     }
     let start = 17 * i;
     let end = start + 17;
-    if !unused_zero(op, mask, &table[start..end]) {
+    if !plan::unused_zero(op, mask, &table[start..end]) {
         return 3;
     }
     if !sources_earlier(x, mask, i) {

@@ -1,4 +1,4 @@
-// Runs framed cases and compares each answer with the one in its frame. Standard input holds the frames end to end, at most 1048576 bytes; numbers
+// Runs framed cases and compares each answer with the one in its frame. Standard input holds the frames end to end, at most 1310720 bytes; numbers
 // are little-endian. A frame is: kind (1 byte), length of the input (2), length of the answer (2), the input, the answer.
 //   kind 0, unpack_check: the input is the packed bytes; the answer one number (8 bytes).
 //   kind 1, unpack: the input is the table's room in words (2 bytes) and the packed bytes; the answer is number, place and count (8 bytes each)
@@ -8,7 +8,9 @@
 //       each), then the words and the values (8 bytes each) and the flags (1 byte each); the answer is number, place and count, every word of the
 //       value buffer and every flag of the flag buffer (8 bytes each).
 //   kind 4, lookup: the input is the node and the element (8 bytes each) and the words of the plan; the answer is its five numbers (8 bytes each).
-// Before the call word k of a buffer is 1000 + k, and a flag is 9. Writes a line for each case that differs, is malformed or is cut short, and at last
+//   kind 5, pack: the input is the room for bytes (2 bytes) and the words of the table (8 bytes each); the answer is number, place and count and
+//       every byte of the buffer (8 bytes each).
+// Before the call word k of a buffer is 1000 + k, and a flag or a byte is 9. Writes a line for each case that differs, is malformed or is cut short, and at last
 // `N passed, M failed`. No frame is passed over: the expected output carries the number of cases.
 // tests/tools/vectors.py writes the frames; `vectors.py --list` names the case of each index.
 use libc::STDIN_FILENO;
@@ -62,8 +64,18 @@ fn unpack_case(bytes: &[u8], room: usize, answer: &[u8]) -> Finding
     found(unpacks(bytes, &mut table[0..room], answer))
 }
 
-// A case of kind 2.
-fn check_case(words: &[u8], room: usize, answer: &[u8]) -> Finding
+// A pack of the words, by way of the table, into the bytes; `wide` is room for them as words.
+fn packs(words: &[u8], table: &mut [i64], bytes: &mut [u8], wide: &mut [i64], answer: &[u8]) -> bool
+    requires { ⌜ (8 * length (now table) ≤ length (now words)) × (length (now wide) ≤ 8192) × (length (now bytes) ≡ length (now wide)) × (24 + 8 * length (now wide) ≤ length (now answer)) ⌝ }
+{
+    framing::read_words(words, table);
+    let a = packing::pack(&table[..], bytes);
+    framing::widen(&bytes[..], wide);
+    framing::same_answer(a, answer, 0) & framing::same_words(&wide[..], answer, 24)
+}
+
+// A case of a kind that is given a table: 2 or 5.
+fn table_case(kind: u8, words: &[u8], room: usize, answer: &[u8]) -> Finding
     requires { ⌜ (room ≤ 8192) × (24 + 8 * room ≤ length (now answer)) ⌝ }
 {
     let count = words.len() / 8;
@@ -74,8 +86,21 @@ fn check_case(words: &[u8], room: usize, answer: &[u8]) -> Finding
         return Finding::Malformed;
     }
     let mut table = [0i64; 8192];
-    let mut derived = [0i64; 8192];
-    found(checks(words, &mut table[0..count], &mut derived[0..room], answer))
+    let mut buffer = [0i64; 8192];
+    let mut bytes = [9u8; 8192];
+    if kind == 2 {
+        return found(checks(words, &mut table[0..count], &mut buffer[0..room], answer));
+    }
+    if kind == 5 {
+        return found(packs(
+            words,
+            &mut table[0..count],
+            &mut bytes[0..room],
+            &mut buffer[0..room],
+            answer,
+        ));
+    }
+    Finding::Malformed
 }
 
 // A case of a kind that writes a buffer.
@@ -93,10 +118,7 @@ fn buffer_case(kind: u8, input: &[u8], answer: &[u8]) -> Finding {
     if kind == 1 {
         return unpack_case(&input[2..], room, answer);
     }
-    if kind == 2 {
-        return check_case(&input[2..], room, answer);
-    }
-    Finding::Malformed
+    table_case(kind, &input[2..], room, answer)
 }
 
 // How much of each the input of a run has, and the rooms of its result buffers.
@@ -359,10 +381,10 @@ fn run_all(s: &[u8]) {
 }
 
 // Room for the frames. The `ensures` gives only the length, which lending the array as a slice needs.
-fn input_buffer() -> [u8; 1048576]
-    ensures { λ r. ⌜ 1048576 ≡ length r ⌝ }
+fn input_buffer() -> [u8; 1310720]
+    ensures { λ r. ⌜ 1310720 ≡ length r ⌝ }
 {
-    [0; 1048576]
+    [0; 1310720]
 }
 
 fn main() {

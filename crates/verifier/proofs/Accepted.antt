@@ -12,11 +12,11 @@ use lib.Dec.{leb}
 use lib.ListN.{length, getD, take}
 use lib.Seq.{take-take, take-suc, take-append-seam, getD-append-seam, getD-take, length-take-le}
 use Rattle.laws.proofs.Lists.{length-snoc, take-whole}
-use Rattle.plan.specs.Words.{nodeAt, nodeCount}
+use Rattle.plan.specs.Words.{nodeAt, nodeCount, lengthRight}
 use Rattle.plan.specs.Answers.{Refusal, Outcome, accepted, refused, refuse, need, andThen, inTurn, AllHold}
 use Rattle.plan.proofs.Outcomes.{never-both, accepted-same, refused-same, need-accepted, then-accepted, turn-last, turn-more, turn-stays, turn-refused, order-accepted, order-holds, order-refused, order-fails}
 use Rattle.rules.specs.Rules.{Derived, noSource}
-use Rattle.verifier.specs.Check.{deriveNode, nodeRules, checkNode, checkTo, lengthRight, totalOf, totalLimit, verdict}
+use Rattle.verifier.specs.Check.{deriveNode, nodeRules, checkNode, checkTo, totalOf, totalLimit, verdict}
 use Rattle.verifier.proofs.ByNumber.{all-rules, rules-all, first-rule, rule-first}
 use Rattle.verifier.specs.Meets.{NodeMeets, MeetsAt, NodesMeet, PlanMeets, Refuses, bad-length, bad-node, too-many}
 

@@ -1,17 +1,16 @@
 -- The rules of a node by their numbers, and in the order in which the check runs them.
 use Prim.Native.Nat.{ℕ, zero, suc, _+_, _<_, _≤_}
-use mathlib.Core.Path.{_≡_, refl, sym, subst}
+use mathlib.Core.Path.{_≡_, sym, refl, subst}
 use mathlib.Core.Bool.{Bool, true, false}
-use mathlib.Core.Logic.{_⊎_, inl, inr, ⊎-elim}
+use mathlib.Core.Logic.{⊎-elim}
 use mathlib.Core.List.{List, [], _∷_}
 use native.Mathlib.Omega.{arith}
 use native.Mathlib.Nat.{eq-or-lt-of-le}
 use lib.IntN.{ℤ}
-use lib.ListN.{length}
 use Rattle.laws.specs.Lists.{among}
 use Rattle.plan.specs.Words.{nodeAt}
-use Rattle.plan.specs.Answers.{Rule, rule, AllHold, FirstFailing, here, later}
-use Rattle.plan.proofs.Outcomes.{fails-here, holds-then}
+use Rattle.plan.specs.Answers.{Rule, rule, AllHold, FirstFailing}
+use Rattle.plan.proofs.Outcomes.{some-rule, fails-cases, fails-here, holds-then}
 use Rattle.rules.specs.Rules.{Derived}
 use Rattle.verifier.specs.Check.{nodeRules}
 use Rattle.verifier.specs.Meets.{ruleHolds}
@@ -20,14 +19,6 @@ use Rattle.verifier.specs.Meets.{ruleHolds}
 unfoldable numbered : (ℕ → Bool) → ℕ → ℕ → List Rule
 numbered f from zero = []
 numbered f from (suc m) = rule from (f from) ∷ numbered f (suc from) m
-
-some-rule : (rules : List Rule) {k : ℕ} → FirstFailing rules k → 0 < length rules
-some-rule (rule number false ∷ rules) here = omega arith
-some-rule (rule number true ∷ rules) (later w) = omega arith
-
-fails-cases : (number : ℕ) (test : Bool) (rules : List Rule) (k : ℕ) → FirstFailing (rule number test ∷ rules) k → ((test ≡ false) × (k ≡ number)) ⊎ ((test ≡ true) × FirstFailing rules k)
-fails-cases number false rules k here = inl (refl, refl)
-fails-cases number true rules k (later w) = inr (refl, w)
 
 module _ (f : ℕ → Bool) where
   all-numbered : (from m : ℕ) → AllHold (numbered f from m) → (k : ℕ) → from ≤ k → k < from + m → f k ≡ true

@@ -9,12 +9,12 @@ use lib.IntN.{ℤ}
 use lib.ListN.{length, take, length-map}
 use lib.Seq.{length-take-le}
 use Rattle.plan.specs.declared.Answer.{Answer}
-use Rattle.plan.specs.Words.{nodeCount}
+use Rattle.plan.specs.Words.{nodeCount, lengthRight}
 use Rattle.plan.specs.Answers.{Outcome, accepted, refuse}
 use Rattle.rules.specs.declared.Record.{Record}
 use Rattle.verifier.specs.declared.Derivation.{Derivation}
 use Rattle.rules.specs.Rules.{Derived}
-use Rattle.verifier.specs.Check.{lengthRight, totalOf, verdict, check, checkAnswer, derivedAfter}
+use Rattle.verifier.specs.Check.{totalOf, verdict, check, checkAnswer, derivedAfter}
 use Rattle.rules.specs.Code.{viewOf}
 use Rattle.verifier.specs.Verdicts.{recordsOf, Derives}
 use Rattle.verifier.specs.Verdicts.{Ends}

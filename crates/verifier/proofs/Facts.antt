@@ -9,10 +9,10 @@ use Rattle.laws.specs.Lists.{lastOr, concat}
 use Rattle.plan.specs.declared.Answer.{Answer}
 use Rattle.plan.specs.Operations.{CONST, PARAM, PAD, CAST, ADD, IDIV, CMPLT, CMPNE, AND, WHERE, REDUCE, LOAD}
 use Rattle.plan.specs.Types.{between}
-use Rattle.plan.specs.Words.{nodeOf}
+use Rattle.plan.specs.Words.{nodeOf, lengthRight}
 use Rattle.plan.specs.Answers.{Outcome, accepted, refused}
 use Rattle.rules.specs.Rules.{Derived, noSource, sourcesEarlier, typesAgree, deviceNamed, paramRight, devicesAgree}
-use Rattle.verifier.specs.Check.{lengthRight, verdict, check, checkAnswer, derivedAfter, unpackCheck, codeOf}
+use Rattle.verifier.specs.Check.{verdict, check, checkAnswer, derivedAfter, unpackCheck, codeOf}
 use Rattle.verifier.specs.Listing.{listing}
 
 pub data Value : Type 0 where
@@ -36,7 +36,7 @@ said (a is b) = b
 
 -- `unfolding checking` opens every definition that a check computes by, for the crates above too.
 unfoldable pub checking : ℕ
-unfolding Rattle.laws.specs.Integers.minZ Rattle.laws.specs.Integers.maxZ Rattle.laws.specs.Integers.min4 Rattle.laws.specs.Integers.max4 Rattle.laws.specs.Integers.floorDiv Rattle.laws.specs.Lists.tab Rattle.laws.specs.Lists.allBelow Rattle.laws.specs.Lists.among Rattle.laws.specs.Lists.occurrences Rattle.laws.specs.Lists.position Rattle.laws.specs.Lists.sum Rattle.laws.specs.Lists.concat Rattle.laws.specs.Lists.lastOr Rattle.laws.specs.Numbering.count Rattle.laws.specs.Numbering.ravel Rattle.laws.specs.Numbering.coord Rattle.plan.specs.Answers.inTurn Rattle.plan.specs.Answers.written Rattle.plan.specs.Operations.uses Rattle.plan.specs.Types.holds Rattle.plan.specs.Types.contains Rattle.plan.specs.Types.rangeOf Rattle.plan.specs.Words.sizeOf Rattle.plan.specs.Words.nodeOf Rattle.plan.specs.Words.wordsOf Rattle.plan.specs.Words.nodeAt Rattle.plan.specs.Words.nodeCount Rattle.plan.specs.Words.overParams Rattle.codec.specs.Numbers.groupsAt Rattle.codec.specs.Numbers.numberAt Rattle.codec.specs.Numbers.wordOf Rattle.codec.specs.Plans.readWord Rattle.codec.specs.Plans.readNode Rattle.codec.specs.Plans.addNode Rattle.codec.specs.Plans.unpack Rattle.shapes.specs.Rows.extentsOf Rattle.shapes.specs.Rows.rowOf Rattle.shapes.specs.Rows.isShapeRow Rattle.shapes.specs.Rows.isFlagRow Rattle.shapes.specs.Rows.isOffsetRow Rattle.shapes.specs.Rows.isPermutation Rattle.shapes.specs.Rules.sameRank Rattle.shapes.specs.Rules.aligned Rattle.shapes.specs.Rules.canBroadcast Rattle.shapes.specs.Rules.broadcast Rattle.shapes.specs.Rules.shapesAgree Rattle.shapes.specs.Rules.permuted Rattle.shapes.specs.Rules.reduced Rattle.shapes.specs.Rules.gatheredExtents Rattle.shapes.specs.Rules.resultExtents Rattle.bounds.specs.Rules.corners Rattle.bounds.specs.Rules.addBounds Rattle.bounds.specs.Rules.mulBounds Rattle.bounds.specs.Rules.maxBounds Rattle.bounds.specs.Rules.idivBounds Rattle.bounds.specs.Rules.modBounds Rattle.bounds.specs.Rules.minBounds Rattle.bounds.specs.Rules.whereBounds Rattle.bounds.specs.Rules.cmpltBounds Rattle.bounds.specs.Rules.disjoint Rattle.bounds.specs.Rules.allEndsEqual Rattle.bounds.specs.Rules.cmpneBounds Rattle.bounds.specs.Rules.gatheredCount Rattle.bounds.specs.Rules.reduceBounds Rattle.bounds.specs.Rules.resultBounds Rattle.verifier.specs.Check.deriveNode Rattle.verifier.specs.Check.nodeRules Rattle.verifier.specs.Check.checkNode Rattle.verifier.specs.Check.lengthRight Rattle.verifier.specs.Check.totalOf Rattle.verifier.specs.Check.verdict Rattle.verifier.specs.Check.derivedWords Rattle.verifier.specs.Check.check Rattle.verifier.specs.Check.unpackCheck Rattle.verifier.specs.Listing.digits Rattle.verifier.specs.Listing.decimal Rattle.verifier.specs.Listing.signed Rattle.verifier.specs.Listing.joined Rattle.verifier.specs.Listing.shapeText Rattle.verifier.specs.Listing.nodeLine Rattle.verifier.specs.Listing.listing Rattle.rules.specs.Rules.sourceOf Rattle.rules.specs.Rules.unusedZero Rattle.rules.specs.Rules.sourcesEarlier Rattle.rules.specs.Rules.typeNamed Rattle.rules.specs.Rules.typesAgree Rattle.rules.specs.Rules.deviceNamed Rattle.rules.specs.Rules.paramRight Rattle.rules.specs.Rules.rowsRight Rattle.rules.specs.Rules.shapeRight Rattle.rules.specs.Rules.oneDevice Rattle.rules.specs.Rules.joinDevice Rattle.rules.specs.Rules.devicesAgree Rattle.rules.specs.Rules.resultDevice Rattle.rules.specs.Rules.divisorRight Rattle.rules.specs.Rules.resultType Rattle.rules.specs.Rules.derivedOf Rattle.rules.specs.Rules.boundsInType
+unfolding Rattle.laws.specs.Integers.minZ Rattle.laws.specs.Integers.maxZ Rattle.laws.specs.Integers.min4 Rattle.laws.specs.Integers.max4 Rattle.laws.specs.Integers.floorDiv Rattle.laws.specs.Lists.tab Rattle.laws.specs.Lists.allBelow Rattle.laws.specs.Lists.among Rattle.laws.specs.Lists.occurrences Rattle.laws.specs.Lists.position Rattle.laws.specs.Lists.sum Rattle.laws.specs.Lists.concat Rattle.laws.specs.Lists.lastOr Rattle.laws.specs.Numbering.count Rattle.laws.specs.Numbering.ravel Rattle.laws.specs.Numbering.coord Rattle.plan.specs.Answers.inTurn Rattle.plan.specs.Answers.written Rattle.plan.specs.Operations.uses Rattle.plan.specs.Types.holds Rattle.plan.specs.Types.contains Rattle.plan.specs.Types.rangeOf Rattle.plan.specs.Words.sizeOf Rattle.plan.specs.Words.nodeOf Rattle.plan.specs.Words.wordsOf Rattle.plan.specs.Words.nodeAt Rattle.plan.specs.Words.nodeCount Rattle.plan.specs.Words.overParams Rattle.codec.specs.Numbers.groupsAt Rattle.codec.specs.Numbers.numberAt Rattle.codec.specs.Numbers.wordOf Rattle.codec.specs.Plans.readWord Rattle.codec.specs.Plans.readNode Rattle.codec.specs.Plans.addNode Rattle.codec.specs.Plans.unpack Rattle.shapes.specs.Rows.extentsOf Rattle.shapes.specs.Rows.rowOf Rattle.shapes.specs.Rows.isShapeRow Rattle.shapes.specs.Rows.isFlagRow Rattle.shapes.specs.Rows.isOffsetRow Rattle.shapes.specs.Rows.isPermutation Rattle.shapes.specs.Rules.sameRank Rattle.shapes.specs.Rules.aligned Rattle.shapes.specs.Rules.canBroadcast Rattle.shapes.specs.Rules.broadcast Rattle.shapes.specs.Rules.shapesAgree Rattle.shapes.specs.Rules.permuted Rattle.shapes.specs.Rules.reduced Rattle.shapes.specs.Rules.gatheredExtents Rattle.shapes.specs.Rules.resultExtents Rattle.bounds.specs.Rules.corners Rattle.bounds.specs.Rules.addBounds Rattle.bounds.specs.Rules.mulBounds Rattle.bounds.specs.Rules.maxBounds Rattle.bounds.specs.Rules.idivBounds Rattle.bounds.specs.Rules.modBounds Rattle.bounds.specs.Rules.minBounds Rattle.bounds.specs.Rules.whereBounds Rattle.bounds.specs.Rules.cmpltBounds Rattle.bounds.specs.Rules.disjoint Rattle.bounds.specs.Rules.allEndsEqual Rattle.bounds.specs.Rules.cmpneBounds Rattle.bounds.specs.Rules.gatheredCount Rattle.bounds.specs.Rules.reduceBounds Rattle.bounds.specs.Rules.resultBounds Rattle.verifier.specs.Check.deriveNode Rattle.verifier.specs.Check.nodeRules Rattle.verifier.specs.Check.checkNode Rattle.plan.specs.Words.lengthRight Rattle.verifier.specs.Check.totalOf Rattle.verifier.specs.Check.verdict Rattle.verifier.specs.Check.derivedWords Rattle.verifier.specs.Check.check Rattle.verifier.specs.Check.unpackCheck Rattle.verifier.specs.Listing.digits Rattle.verifier.specs.Listing.decimal Rattle.verifier.specs.Listing.signed Rattle.verifier.specs.Listing.joined Rattle.verifier.specs.Listing.shapeText Rattle.verifier.specs.Listing.nodeLine Rattle.verifier.specs.Listing.listing Rattle.rules.specs.Rules.sourceOf Rattle.plan.specs.Words.unusedZero Rattle.rules.specs.Rules.sourcesEarlier Rattle.rules.specs.Rules.typeNamed Rattle.rules.specs.Rules.typesAgree Rattle.rules.specs.Rules.deviceNamed Rattle.rules.specs.Rules.paramRight Rattle.rules.specs.Rules.rowsRight Rattle.rules.specs.Rules.shapeRight Rattle.rules.specs.Rules.oneDevice Rattle.rules.specs.Rules.joinDevice Rattle.rules.specs.Rules.devicesAgree Rattle.rules.specs.Rules.resultDevice Rattle.rules.specs.Rules.divisorRight Rattle.rules.specs.Rules.resultType Rattle.rules.specs.Rules.derivedOf Rattle.rules.specs.Rules.boundsInType
 checking = 0
 
 -- ---- nodes written by hand

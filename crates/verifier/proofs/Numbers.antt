@@ -9,10 +9,10 @@ use lib.IntN.{ℤ}
 use lib.Dec.{eqb, leb}
 use lib.ListN.{length}
 use Rattle.laws.proofs.Booleans.{and-true}
-use Rattle.plan.specs.Words.{nodeCount}
+use Rattle.plan.specs.Words.{nodeCount, lengthRight}
 use Rattle.plan.specs.Answers.{Refusal, Rule, rule, FirstFailing, here, later}
 use Rattle.rules.specs.Rules.{Derived}
-use Rattle.verifier.specs.Check.{nodeRules, lengthRight}
+use Rattle.verifier.specs.Check.{nodeRules}
 use Rattle.verifier.specs.Meets.{Refuses, bad-length, bad-node, too-many}
 
 -- ---- the number of a rule

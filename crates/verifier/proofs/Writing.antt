@@ -18,7 +18,7 @@ use Rattle.laws.proofs.Lists.{concat-append}
 use Rattle.laws.proofs.Machine.{R, R-is, small-fits}
 use Rattle.plan.specs.declared.Interval.{Interval}
 use Rattle.plan.specs.Answers.{Outcome, accepted, written}
-use Rattle.codec.proofs.Storing.{sets-more}
+use Rattle.laws.proofs.Pieces.{sets-more}
 use Rattle.bounds.specs.Narrow.{Held}
 use Rattle.shapes.specs.Rows.{extentsOf}
 use Rattle.rules.specs.declared.Record.{Record}

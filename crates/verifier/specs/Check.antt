@@ -9,7 +9,7 @@ use Rattle.laws.specs.Lists.{concat, sum}
 use Rattle.laws.specs.Numbering.{count}
 use Rattle.plan.specs.declared.Answer.{Answer}
 use Rattle.plan.specs.declared.Node.{Node}
-use Rattle.plan.specs.Words.{wordsPerNode, nodeLimit, wordsOf, nodeAt, nodeCount, paramsBefore}
+use Rattle.plan.specs.Words.{wordsPerNode, nodeLimit, wordsOf, nodeAt, nodeCount, lengthRight, paramsBefore}
 use Rattle.plan.specs.Answers.{Outcome, accepted, refused, need, andThen, inTurn, Rule, inOrder, answerOf, bufferAfter}
 use Rattle.codec.specs.Plans.{unpack}
 use Rattle.rules.specs.Rules.{Derived, sourceOf, derivedOf, rulesOf}
@@ -42,10 +42,6 @@ checkNode t n earlier = inOrder (nodeRules t n earlier) n (accepted (earlier ++ 
 -- "nodes in turn": the first n
 abbrev pub checkTo : List ℤ → ℕ → Outcome (List Derived)
 checkTo t = inTurn (checkNode t) []
-
--- "1: length no multiple of 17, or not 1..256 nodes"
-unfoldable pub lengthRight : List ℤ → Bool
-lengthRight t = eqb (length t % wordsPerNode) 0 && (leb 1 (nodeCount t) && leb (nodeCount t) nodeLimit)
 
 -- the number of elements of a node, and of several nodes together
 abbrev pub countOf : Derived → ℕ

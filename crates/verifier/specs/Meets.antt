@@ -7,10 +7,10 @@ use lib.IntN.{ℤ}
 use lib.Dec.{ltb}
 use lib.ListN.{length, getD, take}
 use Rattle.plan.specs.Operations.{operationCount, _⇒_, byOperation}
-use Rattle.plan.specs.Words.{nodeAt, wordsOf, nodeCount, paramsBefore}
+use Rattle.plan.specs.Words.{nodeAt, wordsOf, nodeCount, paramsBefore, lengthRight, unusedZero}
 use Rattle.plan.specs.Answers.{Refusal}
-use Rattle.rules.specs.Rules.{Derived, noSource, unusedZero, sourcesEarlier, typeNamed, typesAgree, rowsRight, shapeRight, devicesAgree, divisorRight, boundsInType, derivedOf}
-use Rattle.verifier.specs.Check.{first, second, third, lengthRight, totalOf, totalLimit}
+use Rattle.rules.specs.Rules.{Derived, noSource, sourcesEarlier, typeNamed, typesAgree, rowsRight, shapeRight, devicesAgree, divisorRight, boundsInType, derivedOf}
+use Rattle.verifier.specs.Check.{first, second, third, totalOf, totalLimit}
 
 -- Whether rule k of 01 holds of node n of table t, after the earlier nodes' records: the test that has this number. The check runs a list of rules in order
 -- (rulesOf); what it accepts and refuses is said over this table, so that a rule in the wrong place of that list, or under the wrong number, shows.

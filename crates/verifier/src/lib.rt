@@ -9,7 +9,7 @@ ghost use lib.Seq.{sets};
 ghost use Rattle.laws.specs.Lists.{concat};
 ghost use Rattle.rules.specs.Rules.{noSource};
 ghost use Rattle.rules.specs.Code.{viewOf};
-ghost use Rattle.verifier.specs.Check.{lengthRight, derivedWords, check, checkAnswer, derivedAfter, unpackCheck, codeOf};
+ghost use Rattle.verifier.specs.Check.{derivedWords, check, checkAnswer, derivedAfter, unpackCheck, codeOf};
 ghost use Rattle.verifier.specs.Verdicts.{Derives, Ends, codeIn};
 use codec::Plan;
 use plan::NodeNumber;
@@ -111,20 +111,11 @@ pub fn derive(table: &[i64], count: usize) -> Derivation
     ended(0, 0, count, total, records)
 }
 
-// Rule 1: 1 to 256 nodes of 17 words.
-fn length_right(table: &[i64]) -> bool
-    ensures { λ r. ⌜ r ≡ lengthRight (now (table .entry)) ⌝ }
-{
-    let words = table.len();
-    let count = words / 17;
-    (words % 17 == 0) & ((1 <= count) & (count <= 256))
-}
-
 // Rules 1 to 12.
 pub fn verdict(table: &[i64]) -> Derivation
     ensures { λ r. ⌜ Ends (now (table .entry)) r ⌝ }
 {
-    if !length_right(table) {
+    if !plan::length_right(table) {
         let none = rules::blank();
         return ended(1, 0, 0, 0, [none; 256]);
     }

@@ -1,12 +1,13 @@
-use Prim.Native.Nat.{ℕ, zero, suc, _-_, _≤_, _<_}
-use mathlib.Core.Path.{_≡_, refl, ap}
-use mathlib.Core.List.{List, [], _∷_, _++_}
+use Prim.Native.Nat.{_-_, _≤_}
+use mathlib.Core.Path.{_≡_}
+use mathlib.Core.List.{_++_}
 use native.Mathlib.Numerals.{add-one}
 use native.Mathlib.Omega.{arith}
 use borrow.Author.Needs.{needs}
-use lib.ListN.{length, take, drop, set, getD, length-set}
-use lib.IntN.{ℤ, pos}
+use lib.ListN.{length, take, drop, getD, length-set}
+use lib.IntN.{pos}
 use Rattle.laws.proofs.Machine.{R-is, fit-at}
+use Rattle.laws.proofs.Pieces.{copied-more}
 use Rattle.codec.proofs.copy.Statement.{statement}
 use Rattle.codec.proofs.copy.Tie as tie
 
@@ -15,13 +16,6 @@ Inv-loop from to₀ n i₀ to i = (i ≤ n) × (to ≡ take i from ++ drop i to�
 
 abbrev μ-loop : tie.MeasureT-loop
 μ-loop from to₀ n i₀ to i = n - i
-
--- a turn's store takes the copy of i words to the copy of one more
-one-more : (from to : List ℤ) (i : ℕ) → i < length from → i < length to → set (take i from ++ drop i to) i (getD from i (pos 0)) ≡ take (suc i) from ++ drop (suc i) to
-one-more [] to i h k = absurd (omega arith)
-one-more (x ∷ xs) [] i h k = absurd (omega arith)
-one-more (x ∷ xs) (y ∷ ys) zero h k = refl
-one-more (x ∷ xs) (y ∷ ys) (suc i) h k = ap (λ (l : List ℤ). x ∷ l) (one-more xs ys i (omega arith) (omega arith))
 
 loop-holds : tie.Need-loop-holds Inv-loop μ-loop
 loop-holds c = search needs
@@ -50,7 +44,7 @@ loop-again c =
     let a = c .before .before .before .args in (
       omega arith,
       rw (R-is (fit-at (getD (a .from .now) (l .i) (pos 0)) (c .to .given)), l .inv .1, add-one)
-          (one-more (a .from .now) (a .to .now) (l .i) (omega arith) (omega arith)),
+          (copied-more (pos 0) (a .from .now) (a .to .now) (l .i) (omega arith) (omega arith)),
       simp length-set (l .inv .2),
     )
 

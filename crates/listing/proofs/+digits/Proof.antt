@@ -2,7 +2,7 @@ use Prim.Native.Nat.{ℕ, _-_, _<_}
 use native.Mathlib.Omega.{arith}
 use borrow.Fn.Kinds.{In}
 use borrow.Fn.PlainCycle.{Measures, is, falls, and}
-use Rattle.listing.proofs.Pieces.{then, same-room, room-left}
+use Rattle.laws.proofs.Pieces.{then, same-room, room-left}
 use Rattle.listing.proofs.Numbers.{no-digits, one-digit, more-digits}
 use Rattle.listing.proofs.digits.Reads as digits
 use Rattle.listing.proofs.digits.Kinds as digits-kinds

@@ -3,7 +3,7 @@ use native.Mathlib.Omega.{arith}
 use lib.ListN.{take}
 use Rattle.rules.specs.Code.{viewOf}
 use borrow.Author.Needs.{needs}
-use Rattle.listing.proofs.Pieces.{then, within, said}
+use Rattle.laws.proofs.Pieces.{then, within, said}
 use Rattle.listing.proofs.Nodes.{as-many, accepted-is}
 use Rattle.listing.proofs.accepted.Statement.{statement}
 use Rattle.listing.proofs.accepted.Tie as tie

@@ -1,5 +1,5 @@
 use borrow.Author.Needs.{needs}
-use Rattle.listing.proofs.Pieces.{said}
+use Rattle.laws.proofs.Pieces.{said}
 use Rattle.listing.proofs.Plans.{refused-text, accepted-text, in-table}
 use Rattle.listing.proofs.checked.Statement.{statement}
 use Rattle.listing.proofs.checked.Tie as tie

@@ -1,5 +1,5 @@
 use borrow.Author.Needs.{needs}
-use Rattle.listing.proofs.Pieces.{then, said}
+use Rattle.laws.proofs.Pieces.{then, said}
 use Rattle.listing.proofs.Nodes.{ends-are}
 use Rattle.listing.proofs.ends.Statement.{statement}
 use Rattle.listing.proofs.ends.Tie as tie

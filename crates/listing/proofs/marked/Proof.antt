@@ -1,5 +1,5 @@
 use borrow.Author.Needs.{needs}
-use Rattle.listing.proofs.Pieces.{then}
+use Rattle.laws.proofs.Pieces.{then}
 use Rattle.listing.proofs.marked.Statement.{statement}
 use Rattle.listing.proofs.marked.Tie as tie
 

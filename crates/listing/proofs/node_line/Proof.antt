@@ -1,7 +1,7 @@
 use native.Mathlib.Omega.{arith}
 use borrow.Author.Needs.{needs}
 use Rattle.rules.specs.Code.{viewOf}
-use Rattle.listing.proofs.Pieces.{then, within, said}
+use Rattle.laws.proofs.Pieces.{then, within, said}
 use Rattle.listing.proofs.Nodes.{line-is}
 use Rattle.listing.proofs.node_line.Statement.{statement}
 use Rattle.listing.proofs.node_line.Tie as tie

@@ -6,8 +6,9 @@ use borrow.Author.Needs.{needs}
 use lib.ListN.{length, take}
 use Rattle.plan.specs.declared.Node.{Node}
 use Rattle.rules.specs.Code.{viewOf}
-use Rattle.listing.specs.Text.{Writes, linesOf}
-use Rattle.listing.proofs.Pieces.{same-room, room-left}
+use Rattle.laws.specs.Pieces.{Writes}
+use Rattle.listing.specs.Text.{linesOf}
+use Rattle.laws.proofs.Pieces.{same-room, room-left}
 use Rattle.listing.proofs.Nodes.{no-lines, next-line, record-at}
 use Rattle.listing.proofs.node_lines.Statement.{statement}
 use Rattle.listing.proofs.node_lines.Tie as tie

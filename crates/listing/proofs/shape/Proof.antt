@@ -1,6 +1,6 @@
 use native.Mathlib.Omega.{arith}
 use borrow.Author.Needs.{needs}
-use Rattle.listing.proofs.Pieces.{then, within, said, room-left}
+use Rattle.laws.proofs.Pieces.{then, within, said, room-left}
 use Rattle.listing.proofs.Shapes.{rank-0, rank-1, rank-2, rank-3, rank-4}
 use Rattle.listing.proofs.shape.Statement.{statement}
 use Rattle.listing.proofs.shape.Tie as tie

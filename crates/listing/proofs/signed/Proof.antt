@@ -1,8 +1,8 @@
 use native.Mathlib.Omega.{arith}
 use borrow.Author.Needs.{needs}
-use Rattle.laws.proofs.Machine.{cast-index}
-use Rattle.listing.proofs.Pieces.{said, within}
-use Rattle.listing.proofs.Numbers.{flip-fits, flip-cast, flip-next, minus-is, plain-is}
+use Rattle.laws.proofs.Machine.{cast-index, flip-fits, flip-cast}
+use Rattle.laws.proofs.Pieces.{said, within}
+use Rattle.listing.proofs.Numbers.{flip-next, minus-is, plain-is}
 use Rattle.listing.proofs.signed.Statement.{statement}
 use Rattle.listing.proofs.signed.Tie as tie
 

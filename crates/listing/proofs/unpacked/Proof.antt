@@ -3,7 +3,7 @@ use lib.ListN.{length-replicate}
 use native.Mathlib.Omega.{arith}
 use borrow.Author.Needs.{needs}
 use Rattle.verifier.proofs.Packed.{few-nodes, room}
-use Rattle.listing.proofs.Pieces.{said}
+use Rattle.laws.proofs.Pieces.{said}
 use Rattle.listing.proofs.Plans.{stop-text, nodes-text}
 use Rattle.listing.proofs.unpacked.Statement.{statement}
 use Rattle.listing.proofs.unpacked.Tie as tie

@@ -5,7 +5,7 @@ use Rattle.vectors.proofs.input_buffer.Statement.{statement}
 use Rattle.vectors.proofs.input_buffer.Tie as tie
 
 returns : tie.Need-returns
-returns c = sym (length-replicate {0} {A = ℕ} 1048576 0)
+returns c = sym (length-replicate {0} {A = ℕ} 1310720 0)
 
 pub input-buffer-spec : {M : Type 1} → statement M
 input-buffer-spec = tie.close (tie.spec returns)

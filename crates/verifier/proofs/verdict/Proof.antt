@@ -1,5 +1,5 @@
 use lib.ListN.{length-replicate}
-use Rattle.rules.proofs.EarlyRules.{on, off}
+use Rattle.laws.proofs.Booleans.{on, off}
 use Rattle.verifier.proofs.Ending.{wrong-length, right-length, node-breaks, all-meet, too-many}
 use borrow.Author.Needs.{needs}
 use Rattle.verifier.proofs.verdict.Statement.{statement}

@@ -1,4 +1,4 @@
-use Rattle.rules.proofs.EarlyRules.{on}
+use Rattle.laws.proofs.Booleans.{on}
 use Rattle.walking.proofs.Walks.{plane-below, merged-still}
 use borrow.Author.Needs.{needs}
 use Rattle.walking.proofs.merge.Statement.{statement}

@@ -1,13 +1,29 @@
--- Pieces of text, one after another.
-use Prim.Native.Nat.{ℕ, _+_, _≤_, _<_}
+-- Pieces of bytes, one after another.
+use Prim.Native.Nat.{ℕ, zero, suc, _+_, _≤_, _<_}
 use mathlib.Core.Path.{_≡_, refl, ap, _∙_}
 use mathlib.Core.List.{List, [], _∷_, _++_}
+use native.Mathlib.Nat.{add-zero, add-suc, suc-add}
 use native.Mathlib.Numerals.{add-one}
 use native.Mathlib.Omega.{arith}
-use lib.ListN.{length, getD, set, take, length-append}
+use lib.ListN.{length, getD, set, take, drop, length-append}
 use lib.Seq.{sets, length-sets, take-suc, length-take-le, take-all}
-use Rattle.codec.proofs.Storing.{sets-more}
-use Rattle.listing.specs.Text.{Writes}
+use Rattle.laws.specs.Pieces.{Writes}
+
+-- values after values
+sets-append : {A : Type 0} (xs ys l : List A) (i : ℕ) → sets (sets l i xs) (i + length xs) ys ≡ sets l i (xs ++ ys)
+sets-append [] ys l i = rw add-zero
+sets-append (x ∷ xs) ys l i = rw (add-suc, ← suc-add) (sets-append xs ys (set l i x) (suc i))
+
+pub sets-more : {A : Type 0} (l : List A) {mid after : List A} (i : ℕ) {place : ℕ} (xs ys : List A) → mid ≡ sets l i xs → place ≡ i + length xs → after ≡ sets mid place ys → after ≡ sets l i (xs ++ ys)
+sets-more l i xs ys e q h = h ∙ rw (e, q) (sets-append xs ys l i)
+
+-- a store takes the copy of i values over others to the copy of one more
+pub copied-more : {A : Type 0} (d : A) (from to : List A) (i : ℕ) → i < length from → i < length to
+    → set (take i from ++ drop i to) i (getD from i d) ≡ take (suc i) from ++ drop (suc i) to
+copied-more d [] to i h k = absurd (omega arith)
+copied-more d (x ∷ xs) [] i h k = absurd (omega arith)
+copied-more d (x ∷ xs) (y ∷ ys) zero h k = refl
+copied-more {A} d (x ∷ xs) (y ∷ ys) (suc i) h k = ap (λ (l : List A). x ∷ l) (copied-more d xs ys i (omega arith) (omega arith))
 
 -- a piece after a piece, and a larger bound
 pub then : {xs ys : List ℕ} {m n : ℕ} {before mid after : List ℕ} {at place next : ℕ} → Writes xs m before at mid place → Writes ys n mid place after next
@@ -26,7 +42,7 @@ within n w h = record { stands = w .stands; is-next = w .is-next; short = omega 
 pub said : {vs ws : List ℕ} {m : ℕ} {before after : List ℕ} {at next : ℕ} → vs ≡ ws → Writes vs m before at after next → Writes ws m before at after next
 said e w = rw (← e) w
 
--- no byte yet, and the length of the text
+-- no byte yet, and the length of the buffer
 pub nothing : (l : List ℕ) (at : ℕ) → Writes [] 0 l at l at
 nothing l at = record { stands = refl; is-next = omega arith; short = omega arith }
 

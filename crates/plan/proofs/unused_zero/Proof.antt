@@ -6,10 +6,10 @@ use lib.IntN.{pos}
 use lib.ListN.{getD}
 use Rattle.laws.specs.Lists.{allBelow}
 use Rattle.laws.proofs.Machine.{R-is, fit-at}
 use Rattle.plan.specs.Words.{sizeOf}
-use Rattle.rules.proofs.EarlyRules.{usedOrZero, zero-more, zero-none, zero-done}
-use Rattle.rules.proofs.unused_zero.Statement.{statement}
-use Rattle.rules.proofs.unused_zero.Tie as tie
+use Rattle.plan.proofs.UnusedWords.{usedOrZero, zero-more, zero-none, zero-done}
+use Rattle.plan.proofs.unused_zero.Statement.{statement}
+use Rattle.plan.proofs.unused_zero.Tie as tie
 
 abbrev Inv-loop : tie.InvT-loop
 Inv-loop op mask words zero₀ k₀ zero k = (1 ≤ k) × (k ≤ 17) × (zero ≡ allBelow k (usedOrZero op words))
@@ -45,7 +45,7 @@ loop-again c =
     let word = ap (λ (n : ℕ). eqb n 0) (c .size-of-word .ensures ∙ ap sizeOf (R-is (fit-at (getD (start .args .words .now) (turn .k) (pos 0)) (c .before .size-of-word-arg .given)))) in (
       search needs,
       search needs,
-      zero-more (start .args .words .now) (turn .k) _ _ _ (start .pre .0) (turn .inv .0) (c .before .before .before .loop-test .taken) (turn .inv .2) (c .before .before .uses-word .ensures) word,
+      zero-more (start .args .words .now) (turn .k) _ _ _ (start .pre .0) (start .pre .1) (turn .inv .0) (c .before .before .before .loop-test .taken) (turn .inv .2) (c .before .before .uses-word .ensures) word,
     )
 
 returns : tie.Need-returns Inv-loop μ-loop

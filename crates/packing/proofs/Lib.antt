@@ -1,0 +1,10 @@
+pub mod Facts
+pub mod NumbersBack
+pub mod Standing
+pub mod NodesBack
+pub mod PlansBack
+pub mod Taken
+pub mod Bytewise
+pub mod Putting
+pub mod Breaking
+pub mod Turning
