@@ -48,6 +48,11 @@ unfolding allBelow
 all-below-of zero p h = refl
 all-below-of (suc n) p h = rw (h 0 (zero-lt-suc n)) (all-below-of n (λ (j : ℕ). p (suc j)) (λ k q. h (suc k) (suc-le-suc q)))
 
+pub all-below-same : (n : ℕ) (p q : ℕ → Bool) → ((k : ℕ) → k < n → p k ≡ q k) → allBelow n p ≡ allBelow n q
+unfolding allBelow
+all-below-same zero p q h = refl
+all-below-same (suc n) p q h = rw (h 0 (zero-lt-suc n), all-below-same n (λ k. p (suc k)) (λ k. q (suc k)) (λ k l. h (suc k) (suc-le-suc l)))
+
 -- one more
 pub all-below-snoc : (n : ℕ) (p : ℕ → Bool) → allBelow (suc n) p ≡ (allBelow n p && p n)
 unfolding allBelow

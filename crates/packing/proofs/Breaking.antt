@@ -1,41 +1,57 @@
 -- Rules 2, 3 and 25 of a node, from the tests that the code makes in turn.
-use Prim.Native.Nat.{ℕ, zero, suc, _+_, _<_, _≤_, _^_, _/_, _%_}
+use Prim.Native.Nat.{ℕ, zero, suc, _+_, _<_, _≤_}
 use mathlib.Core.Path.{_≡_, refl, sym, _∙_}
 use mathlib.Core.Bool.{Bool, true, false, _&&_, _||_, not, true≢false, false≢true}
 use mathlib.Core.List.{List}
 use native.Mathlib.Numerals.{add-one}
 use native.Mathlib.Omega.{arith}
-use borrow.Author.Tests.{lt-ltb, le-ltb}
-use lib.Dec.{eqb, ltb}
-use lib.IntN.{ℤ}
+use borrow.Author.Tests.{eqb-true, lt-ltb, le-ltb}
+use lib.Dec.{eqb, ltb, eqb·suc-zero}
+use lib.IntN.{ℤ, pos, negsuc}
 use Rattle.laws.specs.Lists.{allBelow}
-use Rattle.laws.proofs.Booleans.{all-below-snoc, off, on}
-use Rattle.plan.specs.Operations.{uses, operationCount}
+use Rattle.laws.proofs.Booleans.{bool-cases, all-below, all-below-snoc, all-below-same, off, on}
+use Rattle.plan.specs.Operations.{uses}
 use Rattle.plan.specs.Types.{holds}
-use Rattle.plan.specs.Words.{wordAt, sizeAt, unusedZero}
+use Rattle.plan.specs.Words.{sizeOf, wordAt, sizeAt, unusedZero}
 use Rattle.plan.specs.Answers.{FirstFailing}
 use Rattle.plan.proofs.Outcomes.{fails-here, holds-then}
-use Rattle.plan.proofs.Masks.{mask-bit}
 use Rattle.packing.specs.Packing.{wordRange, usedInRange, packRules}
-use Rattle.packing.specs.Writing.{Decoded, Breaks}
-use Rattle.packing.proofs.NodesBack.{zero-unused}
+use Rattle.packing.specs.Writing.{allInRange, Breaks}
+use Rattle.packing.specs.Bytes.{packedWord}
+use Rattle.packing.proofs.NumbersBack.{small-word}
 
--- word k is not used, or in range
-abbrev pub inRangeAt : ℕ → List ℤ → ℕ → Bool
-inRangeAt op w k = not (uses op k) || holds wordRange (wordAt w k)
+-- word k can be packed
+abbrev pub inRangeAt : List ℤ → ℕ → Bool
+inRangeAt w k = holds wordRange (wordAt w k)
 
-module _ (w : List ℤ) (op mask : ℕ) (d : Decoded w op mask) where
-  pub range-none : true ≡ allBelow 1 (inRangeAt op w)
+module _ (w : List ℤ) where
+  pub range-none : true ≡ allBelow 0 (inRangeAt w)
   unfolding allBelow
-  range-none = rw (zero-unused op (d .known)) refl
+  range-none = refl
 
-  pub range-more : (k : ℕ) (so-far bit fits : Bool) → k < 17 → so-far ≡ allBelow k (inRangeAt op w) → bit ≡ eqb (mask / 2 ^ k % 2) 1 → fits ≡ holds wordRange (wordAt w k)
-      → (so-far && (not bit || fits)) ≡ allBelow (k + 1) (inRangeAt op w)
-  range-more k so-far bit fits l e b q = rw (add-one, all-below-snoc k (inRangeAt op w), e, b, q, d .is-mask, mask-bit op k (d .known) l) refl
+  pub range-more : (k : ℕ) (so-far fits : Bool) → so-far ≡ allBelow k (inRangeAt w) → fits ≡ inRangeAt w k → (so-far && fits) ≡ allBelow (k + 1) (inRangeAt w)
+  range-more k so-far fits e q = rw (add-one, all-below-snoc k (inRangeAt w), e, q) refl
 
-  pub range-done : (k : ℕ) (so-far : Bool) → k ≤ 17 → 17 ≤ k → so-far ≡ allBelow k (inRangeAt op w) → so-far ≡ usedInRange op w
-  unfolding usedInRange
+  pub range-done : (k : ℕ) (so-far : Bool) → k ≤ 17 → 17 ≤ k → so-far ≡ allBelow k (inRangeAt w) → so-far ≡ allInRange w
   range-done k so-far l h e = let q : k ≡ 17 = omega arith in rw q at e
+
+-- where 2 and 3 hold the words that are not used can be packed
+small-in-range : (z : ℤ) → sizeOf z < 21 → holds wordRange z ≡ true
+unfolding sizeOf packedWord
+small-in-range (pos n) h = small-word (pos n) (omega arith)
+small-in-range (negsuc n) h = absurd (omega arith)
+
+unused-in-range : (op : ℕ) (w : List ℤ) → op ≡ sizeAt w 0 → op < 21 → unusedZero op w ≡ true → (k : ℕ) → k < 17 → uses op k ≡ false → holds wordRange (wordAt w k) ≡ true
+unfolding unusedZero
+unused-in-range op w is h e zero l u = small-in-range (wordAt w 0) (rw is at h)
+unused-in-range op w is h e (suc k) l u =
+    let z : (eqb (suc k) 0 || (uses op (suc k) || eqb (sizeOf (wordAt w (suc k))) 0)) ≡ true = all-below 17 _ e (suc k) l in
+    let is : sizeOf (wordAt w (suc k)) ≡ 0 = eqb-true (sizeOf (wordAt w (suc k))) 0 (rw (u, eqb·suc-zero) at z) in
+    small-in-range (wordAt w (suc k)) (omega (arith, is))
+
+all-used : (op : ℕ) (w : List ℤ) → op ≡ sizeAt w 0 → op < 21 → unusedZero op w ≡ true → allInRange w ≡ usedInRange op w
+unfolding usedInRange
+all-used op w is h e = all-below-same 17 _ _ (λ k l. bool-cases (uses op k) (λ u. rw u refl) (λ u. rw (u, unused-in-range op w is h e k l u) refl))
 
 -- ---- the first rule that is broken
 
@@ -56,9 +72,9 @@ module _ (w : List ℤ) {op : ℕ} (is : op ≡ sizeAt w 0) where
     pub breaks-3 : not r3 ≡ true → Breaks w 3
     breaks-3 f = only (omega arith) (holds-then _ known (fails-here _ (off r3 is-3 f)))
 
-    module _ (n3 : not r3 ≡ false) (r25 : Bool) (e25 : r25 ≡ usedInRange op w) where
+    module _ (n3 : not r3 ≡ false) (r25 : Bool) (e25 : r25 ≡ allInRange w) where
       is-25 : r25 ≡ usedInRange (sizeAt w 0) w
-      is-25 = e25 ∙ rw is refl
+      is-25 = e25 ∙ all-used op w is k (on r3 e3 n3) ∙ rw is refl
 
       pub breaks-25 : not r25 ≡ true → Breaks w 25
       breaks-25 f = only (omega arith) (holds-then _ known (holds-then _ (on r3 is-3 n3) (fails-here _ (off r25 is-25 f))))

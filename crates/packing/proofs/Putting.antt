@@ -1,9 +1,10 @@
 -- Numbers and words as they are written: one law for each way through a function.
 use Prim.Native.Nat.{ℕ, zero, suc, _+_, _*_, _-_, _/_, _%_, _^_, _<_, _≤_}
 use mathlib.Core.Path.{_≡_, refl, sym, ap, _∙_}
+use mathlib.Core.Logic.{⊎-elim}
 use mathlib.Core.Bool.{Bool, true, false, _&&_, _||_, not, cond}
 use mathlib.Core.List.{List, [], _∷_, _++_, append-assoc, append-nil}
-use native.Mathlib.Nat.{pow-succ'}
+use native.Mathlib.Nat.{pow-succ', add-zero, add-suc, eq-or-lt-of-le}
 use native.Mathlib.Numerals.{add-one, sub-one}
 use native.Mathlib.Omega.{arith}
 use borrow.Author.Tests.{ltb-true, ltb-false, le-ltb}
@@ -20,9 +21,9 @@ use Rattle.packing.specs.Bytes.{groupsOf, bytesOf, packedWord}
 use Rattle.laws.specs.Pieces.{Writes}
 use Rattle.packing.specs.Writing.{wordBytes, Decoded}
 use Rattle.packing.specs.Packing.{wordsTo, nodeBytes}
-use Rattle.plan.specs.Operations.{uses}
+use Rattle.plan.specs.Operations.{uses, operationCount}
 use Rattle.plan.specs.Words.{wordAt, sizeAt}
-use Rattle.plan.proofs.Masks.{mask-bit}
+use Rattle.plan.proofs.Masks.{mask-bit, mask-low, mask-last}
 use Rattle.codec.proofs.Prefix.{used, few-used}
 use Rattle.packing.proofs.NumbersBack.{one-group, next-group}
 use Rattle.laws.proofs.Pieces.{nothing, within, then, said, same-room, room-left}
@@ -148,18 +149,28 @@ word-room at n u h = rw u at h
 
 -- ---- a node's words
 
-module _ (w : List ℤ) (op mask : ℕ) (d : Decoded w op mask) {before : List ℕ} {at : ℕ} where
+-- a bit that is left is that of a word, and words after the last bit are not used
+pub words-left : {w : List ℤ} {op mask k : ℕ} → Decoded w op mask → op < operationCount → k ≤ 16 → 1 < mask / 2 ^ k → k < 16
+words-left {k = k} d o l h = ⊎-elim (λ (e : k ≡ 16). absurd (omega (arith, mask-low _ o, rw (e, d .is-mask) at h))) (λ (q : k < 16). q) (eq-or-lt-of-le l)
+
+words-after : (w : List ℤ) (op mask k j : ℕ) → Decoded w op mask → op < operationCount → k + j ≤ 16 → mask / 2 ^ k ≤ 1 → wordsTo op w (k + j) ≡ wordsTo op w k
+unfolding wordsTo
+words-after w op mask k zero d o l h = rw (add-zero k) refl
+words-after w op mask k (suc j) d o l h =
+    rw (add-suc k j, add-one, mask-last op k (suc (k + j)) o (omega arith) (omega arith) (rw (d .is-mask) at h), append-nil (wordsTo op w (k + j))) (words-after w op mask k j d o (omega arith) h)
+
+module _ (w : List ℤ) (op mask : ℕ) (d : Decoded w op mask) (known : op < operationCount) {before : List ℕ} {at : ℕ} where
   pub words-none : Writes (wordsTo op w 0) (5 * used op 0) before at before at
   unfolding wordsTo used
   words-none = nothing before at
 
   module _ (k : ℕ) (less : k < 16) {bit : Bool} (is : bit ≡ eqb (mask / 2 ^ (k + 1) % 2) 1) {mid : List ℕ} {to : ℕ} (so : Writes (wordsTo op w k) (5 * used op k) before at mid to) where
     bit-is : bit ≡ uses op (k + 1)
-    bit-is = is ∙ rw (d .is-mask) (mask-bit op (k + 1) (d .known) (omega arith))
+    bit-is = is ∙ rw (d .is-mask) (mask-bit op (k + 1) (known) (omega arith))
 
     pub words-room : at + 45 ≤ length before → to + 5 * cond bit 1 0 ≤ length mid
     unfolding used
-    words-room h = room-left (5 * cond bit 1 0) 45 so h (rw bit-is (omega (arith, few-used op (suc k) (d .known) (omega arith))))
+    words-room h = room-left (5 * cond bit 1 0) 45 so h (rw bit-is (omega (arith, few-used op (suc k) (known) (omega arith))))
 
     pub words-more : {z : ℤ} {after : List ℕ} {next : ℕ} → z ≡ wordAt w (k + 1) → Writes (wordBytes bit z) (5 * cond bit 1 0) mid to after next
         → Writes (wordsTo op w (k + 1)) (5 * used op (k + 1)) before at after next
@@ -168,8 +179,10 @@ module _ (w : List ℤ) (op mask : ℕ) (d : Decoded w op mask) {before : List �
         let v′ : Writes (wordBytes (uses op (k + 1)) (wordAt w (k + 1))) (5 * cond (uses op (k + 1)) 1 0) mid to _ _ = rw (bit-is, e) at v in
         rw (add-one) (within (5 * (used op k + cond (uses op (k + 1)) 1 0)) (then so v′) (omega arith))
 
-  pub words-done : {k : ℕ} {after : List ℕ} {next : ℕ} → k ≤ 16 → 16 ≤ k → Writes (wordsTo op w k) (5 * used op k) before at after next → Writes (wordsTo op w 16) 45 before at after next
-  words-done {k} l h v = let e : k ≡ 16 = omega arith in within 45 (rw e at v) (omega (arith, few-used op 16 (d .known) (omega arith)))
+  pub words-done : {k : ℕ} {after : List ℕ} {next : ℕ} → k ≤ 16 → mask / 2 ^ k ≤ 1 → Writes (wordsTo op w k) (5 * used op k) before at after next → Writes (wordsTo op w 16) 45 before at after next
+  words-done {k} l h v =
+      let all : wordsTo op w k ≡ wordsTo op w 16 = sym (words-after w op mask k (16 - k) d known (omega arith) h) ∙ ap (wordsTo op w) (omega arith) in
+      said all (within 45 v (omega (arith, few-used op k known (omega arith))))
 
 -- the operation, of one byte, and then the words
 pub node-written : (w : List ℤ) (op : ℕ) {before mid after : List ℕ} {at place next : ℕ} → op < 128 → sizeAt w 0 ≡ op → Writes (groupsOf 1 op) 1 before at mid place

@@ -3,26 +3,36 @@ use Prim.Native.Nat.{ℕ, zero, suc, _+_, _*_, _/_, _%_, _<_, _≤_}
 use mathlib.Core.Path.{_≡_, refl, sym, ap, subst, _∙_}
 use mathlib.Core.Bool.{true, false, _&&_}
 use mathlib.Core.List.{List, [], _∷_, _++_}
+use native.Mathlib.Nat.{add-zero}
 use native.Mathlib.Numerals.{add-one}
 use native.Mathlib.Omega.{arith}
 use borrow.Author.Tests.{le-leb, lt-leb, leb-true}
 use lib.Dec.{leb, eqb}
-use lib.IntN.{ℤ}
-use lib.ListN.{length, take, drop, length-append}
+use lib.IntN.{ℤ, pos}
+use lib.ListN.{length, getD, take, drop, length-append}
 use lib.Seq.{sets, sets-eq, take-at, length-take-le}
 use Rattle.laws.proofs.Booleans.{and-true}
 use Rattle.plan.specs.declared.Answer.{Answer}
-use Rattle.plan.specs.Words.{wordsOf, nodeCount, lengthRight}
+use Rattle.plan.specs.Operations.{masks}
+use Rattle.plan.specs.Words.{sizeOf, wordsOf, nodeCount, lengthRight}
 use Rattle.plan.specs.Answers.{Refusal, Outcome, accepted, refused, refuse, need, andThen, inTurn, written}
+use Rattle.plan.proofs.Decoding.{word-at}
 use Rattle.plan.proofs.Outcomes.{turn-more, turn-stays, order-holds, order-fails}
 use Rattle.codec.specs.declared.Step.{Step}
 use Rattle.codec.specs.declared.Step.the-variants.{Next, Stop}
 use Rattle.packing.specs.Bytes.{groupsOf, bytesOf}
 use Rattle.packing.specs.Packing.{packRules, nodeBytes, packNode, pack, packAnswer, bytesAfter}
 use Rattle.laws.specs.Pieces.{Writes}
-use Rattle.packing.specs.Writing.{Breaks, Ended}
+use Rattle.packing.specs.Writing.{Decoded, Breaks, Ended}
 use Rattle.laws.proofs.Pieces.{same-room}
 use Rattle.packing.proofs.Putting.{groups-enough}
+
+-- what is looked up of a node, by the part of the table that is lent
+pub decoded : (t : List ℤ) (n : ℕ) {w : List ℤ} {op mask : ℕ} → w ≡ wordsOf t n → length w ≡ 17 → op ≡ sizeOf (getD t (17 * n) (pos 0)) → mask ≡ getD masks op 0 → Decoded w op mask
+decoded t n {w} {op} part long is mask =
+    let first : getD w 0 (pos 0) ≡ getD t (17 * n) (pos 0) = rw part (word-at t n 0 (omega arith) ∙ rw (add-zero (17 * n)) refl) in
+    record { long = long; is-operation = is ∙ ap sizeOf (sym first); is-mask = mask }
+
 
 -- the bytes up to the end of a piece
 pub taken : {ws before after : List ℕ} {most at next : ℕ} → Writes ws most before at after next → at + most ≤ length before → take next after ≡ take at before ++ ws

@@ -7,11 +7,10 @@ ghost use lib.ListN.{length, take, drop};
 ghost use Rattle.plan.specs.Operations.{operationCount};
 ghost use Rattle.plan.specs.Types.{holds};
 ghost use Rattle.packing.specs.Bytes.{groupsOf, packedWord};
-ghost use Rattle.packing.specs.Packing.{wordRange, usedInRange, wordsTo, nodeBytes, packNode, pack, packAnswer, bytesAfter};
+ghost use Rattle.packing.specs.Packing.{wordRange, wordsTo, nodeBytes, packNode, pack, packAnswer, bytesAfter};
 ghost use Rattle.plan.specs.Answers.{inTurn};
 ghost use Rattle.laws.specs.Pieces.{Writes};
-ghost use Rattle.packing.specs.Writing.{wordBytes, Decoded, Breaks, Ended};
-ghost use Rattle.plan.specs.Words.{sizeAt};
+ghost use Rattle.packing.specs.Writing.{wordBytes, Decoded, allInRange, Breaks, Ended};
 
 // A number in at most k groups of seven bits from place `at` on; the place after it.
 fn groups(k: usize, m: usize, bytes: &mut [u8], at: usize) -> usize
@@ -63,14 +62,14 @@ fn word(w: i64, used: bool, bytes: &mut [u8], at: usize) -> usize
     at
 }
 
-// The used words of a node from place `at` on; the place after them.
+// The used words of a node from place `at` on, as far as the mask has bits; the place after them.
 fn words(w: &[i64], op: usize, mask: usize, bytes: &mut [u8], at: usize) -> usize
-    requires { ⌜ Decoded (now w) op mask × (at + 45 ≤ length (now bytes)) ⌝ }
+    requires { ⌜ Decoded (now w) op mask × (op < operationCount) × (at + 45 ≤ length (now bytes)) ⌝ }
     ensures { λ r. ⌜ Writes (wordsTo op (now (w .entry)) 16) 45 (now (bytes .entry)) at (now (bytes .exit)) r ⌝ }
 {
     let mut to = at;
     let mut k = 0;
-    while k < 16 {
+    while 1 < mask >> k {
         let used = plan::uses_word(mask, k + 1);
         to = word(w[k + 1], used, bytes, to);
         k += 1;
@@ -79,46 +78,41 @@ fn words(w: &[i64], op: usize, mask: usize, bytes: &mut [u8], at: usize) -> usiz
 }
 
 // A node from place `at` on; the place after it.
-fn node(w: &[i64], bytes: &mut [u8], at: usize) -> usize
-    requires { ⌜ (length (now w) ≡ 17) × (sizeAt (now w) 0 < operationCount) × (at + 46 ≤ length (now bytes)) ⌝ }
+fn node(w: &[i64], op: usize, mask: usize, bytes: &mut [u8], at: usize) -> usize
+    requires { ⌜ Decoded (now w) op mask × (op < operationCount) × (at + 46 ≤ length (now bytes)) ⌝ }
     ensures { λ r. ⌜ Writes (nodeBytes (now (w .entry))) 46 (now (bytes .entry)) at (now (bytes .exit)) r ⌝ }
 {
-    let op = plan::size_of_word(w[0]);
-    let mask = plan::used_mask(op);
     let next = groups(1, op, bytes, at);
     words(w, op, mask, bytes, next)
 }
 
-// Rule 25: the words that the operation uses can be packed.
-fn used_in_range(op: usize, mask: usize, w: &[i64]) -> bool
-    requires { ⌜ Decoded (now w) op mask ⌝ }
-    ensures { λ r. ⌜ r ≡ usedInRange op (now (w .entry)) ⌝ }
+// All words of a node can be packed.
+fn all_in_range(w: &[i64]) -> bool
+    requires { ⌜ length (now w) ≡ 17 ⌝ }
+    ensures { λ r. ⌜ r ≡ allInRange (now (w .entry)) ⌝ }
 {
     let mut all = true;
-    let mut k = 1;
+    let mut k = 0;
     while k < 17 {
-        let unused = !plan::uses_word(mask, k);
-        let fits = in_range(w[k]);
-        all = all & (unused | fits);
+        all = all & in_range(w[k]);
         k += 1;
     }
     all
 }
 
-// The first of rules 2, 3 and 25 that a node's words break; 0 where they break none.
-fn broken(w: &[i64]) -> usize
-    requires { ⌜ length (now w) ≡ 17 ⌝ }
+// The first of rules 2, 3 and 25 that a node's words break; 0 where they break none. Where 2 and 3 hold, the words that are not used can be packed,
+// so that 25 is asked of all.
+fn broken(w: &[i64], op: usize, mask: usize) -> usize
+    requires { ⌜ Decoded (now w) op mask ⌝ }
     ensures { λ r. ⌜ Breaks (now (w .entry)) r ⌝ }
 {
-    let op = plan::size_of_word(w[0]);
     if 21 <= op {
         return 2;
     }
-    let mask = plan::used_mask(op);
     if !plan::unused_zero(op, mask, w) {
         return 3;
     }
-    if !used_in_range(op, mask, w) {
+    if !all_in_range(w) {
         return 25;
     }
     0
@@ -134,11 +128,13 @@ fn nodes(table: &[i64], count: usize, bytes: &mut [u8], start: usize) -> codec::
     while n < count {
         let from = 17 * n;
         let end = from + 17;
-        let number = broken(&table[from..end]);
+        let op = plan::size_of_word(table[from]);
+        let mask = plan::used_mask(op);
+        let number = broken(&table[from..end], op, mask);
         if number != 0 {
             return codec::Step::Stop(number, n);
         }
-        at = node(&table[from..end], bytes, at);
+        at = node(&table[from..end], op, mask, bytes, at);
         n += 1;
     }
     codec::Step::Next(at)

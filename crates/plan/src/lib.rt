@@ -1,9 +1,11 @@
 // The vocabulary of plans: number kinds, rows, nodes, intervals and answers, and what decodes them.
 ghost use mathlib.Core.Path.{_≡_};
+ghost use mathlib.Core.Bool.{cond};
+ghost use lib.IntN.{pos};
 ghost use Prim.Native.Nat.{_+_, _*_, _/_, _%_, _^_, _<_, _≤_};
 ghost use lib.Dec.{eqb};
 ghost use lib.ListN.{length, getD};
-ghost use Rattle.plan.specs.Operations.{masks};
+ghost use Rattle.plan.specs.Operations.{masks, operationCount};
 ghost use Rattle.plan.specs.Types.{rangeOf};
 ghost use Rattle.plan.specs.Words.{sizeOf, sizeAt, rowAt, nodeOf, nodeAt, lengthRight, unusedZero};
 
@@ -185,18 +187,29 @@ pub fn length_right(table: &[i64]) -> bool
     (words % 17 == 0) & ((1 <= count) & (count <= 256))
 }
 
-// Rule 3: the words that the operation does not use are zero.
+// A word that is not used, 0 in place of one that is.
+fn if_unused(used: bool, word: i64) -> i64
+    ensures { λ r. ⌜ r ≡ cond used (pos 0) word ⌝ }
+{
+    if used {
+        return 0;
+    }
+    word
+}
+
+// Rule 3: the words that the operation does not use are zero. Their bits are put together, which the machine does for several words at once.
 pub fn unused_zero(op: usize, mask: usize, words: &[i64]) -> bool
-    requires { ⌜ (op < 21) × (mask ≡ getD masks op 0) × (length (now words) ≡ 17) ⌝ }
+    requires { ⌜ (op < operationCount) × (mask ≡ getD masks op 0) × (length (now words) ≡ 17) ⌝ }
     ensures { λ r. ⌜ r ≡ unusedZero op (now (words .entry)) ⌝ }
 {
-    let mut zero = true;
+    let mut bits = 0i64;
     let mut k = 1;
     while k < 17 {
-        zero = zero & (uses_word(mask, k) | (size_of_word(words[k]) == 0));
+        let used = uses_word(mask, k);
+        bits = bits | if_unused(used, words[k]);
         k += 1;
     }
-    zero
+    bits == 0
 }
 
 // The answer of a call that accepts.

@@ -12,7 +12,7 @@ use lib.Dec.{leb, ltb}
 use lib.ListN.{length, take}
 use Rattle.laws.specs.Lists.{allBelow}
 use Rattle.laws.specs.Numbering.{count, ravel, coord}
-use Rattle.laws.proofs.Booleans.{and-true}
+use Rattle.laws.proofs.Booleans.{and-true, all-below-same}
 use Rattle.plan.specs.declared.Row.{Row}
 use Rattle.plan.specs.Words.{listOf, element}
 use Rattle.shapes.specs.Rules.{extent, wordOf, sameRank}
@@ -24,17 +24,12 @@ use Rattle.views.proofs.Axiswise.{coord-0, coord-1, coord-2, coord-3, b
 
 -- ---- tests of all axes, those in front passing
 
-all-same : (n : ℕ) (p q : ℕ → Bool) → ((k : ℕ) → k < n → p k ≡ q k) → allBelow n p ≡ allBelow n q
-unfolding allBelow
-all-same zero p q h = refl
-all-same (suc n) p q h = rw (h 0 (zero-lt-suc n), all-same n (λ k. p (suc k)) (λ k. q (suc k)) (λ k l. h (suc k) (suc-le-suc l)))
-
 all-rest : (d n : ℕ) (p : ℕ → Bool) → ((k : ℕ) → k < d → p k ≡ true) → allBelow (d + n) p ≡ allBelow n (λ (k : ℕ). p (d + k))
 unfolding allBelow
-all-rest zero n p h = rw zero-add (all-same n p (λ k. p (0 + k)) (λ k q. rw zero-add))
+all-rest zero n p h = rw zero-add (all-below-same n p (λ k. p (0 + k)) (λ k q. rw zero-add))
 all-rest (suc d) n p h =
     rw (suc-add, h 0 (zero-lt-suc d))
-    (all-rest d n (λ k. p (suc k)) (λ k l. h (suc k) (suc-le-suc l)) ∙ all-same n _ _ (λ k q. rw suc-add))
+    (all-rest d n (λ k. p (suc k)) (λ k l. h (suc k) (suc-le-suc l)) ∙ all-below-same n _ _ (λ k q. rw suc-add))
 
 all-four : (p : ℕ → Bool) → ((p 0 && (p 1 && p 2)) && p 3) ≡ allBelow 4 p
 unfolding allBelow
@@ -70,7 +65,7 @@ module _ (s r : List ℕ) (S R O row : Row) (base : ℕ) (under : InFront 1 s S)
       ap (λ (n : ℕ). allBelow n there) four
       ∙ all-rest (4 - length s) (length s) there
       (λ k q. rw (words-front (length s) row O ranked offsets k q, extent-front s S under k q, grid-zero r R over e h k (rw ranks at q)))
-      ∙ all-same (length s) _ _
+      ∙ all-below-same (length s) _ _
       (λ k q. rw (words-rest (length s) row O ranked offsets k q, extent-rest s S under k, ranks, grid-same r R over e h k))
 
   pad-at : ravel (listOf S) (λ (k : ℕ). coord (listOf R) e k - wordOf (listOf O) k) ≡ ravel s (λ (k : ℕ). coord r e k - wordOf (listOf row) k)

@@ -1,21 +1,21 @@
 use Prim.Native.Nat.{ℕ, _≤_, _-_}
 use mathlib.Core.Path.{_≡_, _∙_, ap}
+use mathlib.Core.Bool.{cond}
 use borrow.Author.Needs.{needs}
 use lib.Dec.{eqb}
 use lib.IntN.{pos}
 use lib.ListN.{getD}
 use Rattle.laws.specs.Lists.{allBelow}
 use Rattle.laws.proofs.Machine.{R-is, fit-at}
-use Rattle.plan.specs.Words.{sizeOf}
 use Rattle.plan.proofs.UnusedWords.{usedOrZero, zero-more, zero-none, zero-done}
 use Rattle.plan.proofs.unused_zero.Statement.{statement}
 use Rattle.plan.proofs.unused_zero.Tie as tie
 
 abbrev Inv-loop : tie.InvT-loop
-Inv-loop op mask words zero₀ k₀ zero k = (1 ≤ k) × (k ≤ 17) × (zero ≡ allBelow k (usedOrZero op words))
+Inv-loop op mask words bits₀ k₀ bits k = (1 ≤ k) × (k ≤ 17) × (eqb bits 0 ≡ allBelow k (usedOrZero op words))
 
 abbrev μ-loop : tie.MeasureT-loop
-μ-loop op mask words zero₀ k₀ zero k = 17 - k
+μ-loop op mask words bits₀ k₀ bits k = 17 - k
 
 loop-holds : tie.Need-loop-holds Inv-loop μ-loop
 loop-holds c = (search needs, search needs, zero-none (c .args .op) (c .args .words .now))
@@ -23,14 +23,14 @@ loop-holds c = (search needs, search needs, zero-none (c .args .op) (c .args .wo
 uses-word-requires : tie.Need-uses-word-requires Inv-loop μ-loop
 uses-word-requires c κs = search needs
 
-mul-size-of-word : tie.Need-mul-size-of-word Inv-loop μ-loop
-mul-size-of-word c = search needs
+mul-if-unused : tie.Need-mul-if-unused Inv-loop μ-loop
+mul-if-unused c = search needs
 
-shared-slice-copy-out-size-of-word : tie.Need-shared-slice-copy-out-size-of-word Inv-loop μ-loop
-shared-slice-copy-out-size-of-word c = search needs
+shared-slice-copy-out-if-unused : tie.Need-shared-slice-copy-out-if-unused Inv-loop μ-loop
+shared-slice-copy-out-if-unused c = search needs
 
-size-of-word-requires : tie.Need-size-of-word-requires Inv-loop μ-loop
-size-of-word-requires c κs = search needs
+if-unused-requires : tie.Need-if-unused-requires Inv-loop μ-loop
+if-unused-requires c κs = search needs
 
 add-k : tie.Need-add-k Inv-loop μ-loop
 add-k c = search needs
@@ -42,10 +42,10 @@ loop-again : tie.Need-loop-again Inv-loop μ-loop
 loop-again c =
     let start = c .before .before .before .before .before in
     let turn = c .before .before .before .before .loop in
-    let word = ap (λ (n : ℕ). eqb n 0) (c .size-of-word .ensures ∙ ap sizeOf (R-is (fit-at (getD (start .args .words .now) (turn .k) (pos 0)) (c .before .size-of-word-arg .given)))) in (
+    let fit = fit-at (getD (start .args .words .now) (turn .k) (pos 0)) (c .before .if-unused-arg .given) in (
       search needs,
       search needs,
-      zero-more (start .args .words .now) (turn .k) _ _ _ (start .pre .0) (start .pre .1) (turn .inv .0) (c .before .before .before .loop-test .taken) (turn .inv .2) (c .before .before .uses-word .ensures) word,
+      zero-more (start .args .words .now) (turn .k) (turn .bits) (c .before .before .uses-word .result) (c .if-unused .result) (start .pre .0) (start .pre .1) (turn .inv .0) (c .before .before .before .loop-test .taken) (turn .inv .2) (c .before .before .uses-word .ensures) fit (c .if-unused .ensures ∙ ap (cond (c .before .before .uses-word .result) (pos 0)) (R-is fit)),
     )
 
 returns : tie.Need-returns Inv-loop μ-loop
@@ -59,9 +59,9 @@ unused-zero-spec =
     μ-loop
     loop-holds
     uses-word-requires
-    mul-size-of-word
-    shared-slice-copy-out-size-of-word
-    size-of-word-requires
+    mul-if-unused
+    shared-slice-copy-out-if-unused
+    if-unused-requires
     add-k
     loop-less
     loop-again
