@@ -33,7 +33,6 @@ decoded t n {w} {op} part long is mask =
     let first : getD w 0 (pos 0) ≡ getD t (17 * n) (pos 0) = rw part (word-at t n 0 (omega arith) ∙ rw (add-zero (17 * n)) refl) in
     record { long = long; is-operation = is ∙ ap sizeOf (sym first); is-mask = mask }
 
-
 -- the bytes up to the end of a piece
 pub taken : {ws before after : List ℕ} {most at next : ℕ} → Writes ws most before at after next → at + most ≤ length before → take next after ≡ take at before ++ ws
 taken {ws} {before} {at = at} w h =
