@@ -156,7 +156,7 @@ lup_answer lup_unpack(const uint8_t *bytes, size_t nbytes, int64_t *table, size_
  * the table back, and lup_pack of what lup_unpack gave gives the same bytes. Tables that lup_check refuses are packed too: rules 4 to 12 are not asked.
  * Refusals, in order: 1, the length; 2, 3 and 25, the first node that breaks one of these rules (place: that node) and the first that it breaks; 14,
  * bytes is shorter than what is to be written, so room for LUP_MOST_PACKED_BYTES is always enough.
- * Stack: 12,240 bytes measured on plans of 256 nodes (painted stack, x86-64), 3,040 more on a first call with lazy binding; 24 KiB is enough. */
+ * Stack: 12,200 bytes measured on plans of 256 nodes (painted stack, x86-64), 3,200 more on a first call with lazy binding; 24 KiB is enough. */
 lup_answer lup_pack(const int64_t *table, size_t nwords, uint8_t *bytes, size_t nbytes);
 
 /* Checks a plan and writes what is derived of its nodes, eight words each: type, device, low, high, four extents with zeros past the rank; words

@@ -197,7 +197,7 @@ fn if_unused(used: bool, word: i64) -> i64
     word
 }
 
-// Rule 3: the words that the operation does not use are zero. Their bits are put together, which the machine does for several words at once.
+// Rule 3: the words that the operation does not use are zero. Their bits are put together and tested once.
 pub fn unused_zero(op: usize, mask: usize, words: &[i64]) -> bool
     requires { ⌜ (op < operationCount) × (mask ≡ getD masks op 0) × (length (now words) ≡ 17) ⌝ }
     ensures { λ r. ⌜ r ≡ unusedZero op (now (words .entry)) ⌝ }
