@@ -31,6 +31,7 @@ use Rattle.packing.proofs.PlansBack.{read-of-written, written-of-read}
 use Rattle.packing.proofs.Taken as taken
 use Rattle.packing.proofs.Bytewise.{pack-bytes}
 use Rattle.verifier.specs.Meets.{ruleHolds}
+use Rattle.guarantees.specs.Questions.{i16, constant}
 use Rattle.guarantees.specs.Demand3.{word}
 use Rattle.guarantees.specs.Acceptance.{Nodes}
 use Rattle.guarantees.specs.Rules.{Exactly, usesWord, Rule2, Rule3}
@@ -235,6 +236,10 @@ module _ (t : List ℤ) (room : ℕ) where
       let is : all .0 ≡ b = same-file t (all .0) b (file-of t (all .0) (length (all .0)) (all .1 (length (all .0)) (le-refl (length (all .0))))) f in
       all .2 room (rw is h)
 
+example-packs : pack (constant i16 (pos 5)) 4 ≡ accepted (1 ∷ 0 ∷ 4 ∷ 10 ∷ [])
+unfolding Rattle.laws.specs.Lists.among Rattle.laws.specs.Lists.allBelow Rattle.plan.specs.Answers.inTurn Rattle.plan.specs.Operations.uses Rattle.plan.specs.Types.holds Rattle.plan.specs.Words.sizeOf Rattle.plan.specs.Words.wordsOf Rattle.plan.specs.Words.nodeCount Rattle.plan.specs.Words.lengthRight Rattle.plan.specs.Words.unusedZero Rattle.packing.specs.Bytes.groupsOf Rattle.packing.specs.Bytes.bytesOf Rattle.packing.specs.Bytes.packedWord Rattle.packing.specs.Packing.usedInRange Rattle.packing.specs.Packing.wordsTo Rattle.packing.specs.Packing.nodeBytes Rattle.packing.specs.Packing.packNode Rattle.packing.specs.Packing.pack
+example-packs = refl
+
 pub packs-exactly : PacksExactly
 packs-exactly =
     record {
@@ -245,6 +250,7 @@ packs-exactly =
       one-file = same-file;
       accepted-when = λ t room b. (λ e. (file-of t b room e, taken.takes .only t room b e .1), λ x. of-file t b (x .0) room (x .1));
       refused-when = λ t room r. (refused-because t room r, because-refused t room r);
+      example = file-of (constant i16 (pos 5)) (1 ∷ 0 ∷ 4 ∷ 10 ∷ []) 4 example-packs;
       short = λ t b f. plans-are-short b (length t) _ (read-of t b f);
     }
 

@@ -3,7 +3,7 @@
 use Prim.Native.Nat.{ℕ, _+_, _*_, _<_, _≤_}
 use mathlib.Core.Path.{_≡_}
 use mathlib.Core.Bool.{true}
-use mathlib.Core.List.{List, _++_}
+use mathlib.Core.List.{List, [], _∷_, _++_}
 use lib.IntN.{ℤ, pos, negsuc}
 use lib.ListN.{length, getD, take, drop}
 use Rattle.plan.specs.declared.Answer.{Answer}
@@ -11,6 +11,7 @@ use Rattle.plan.specs.Answers.{Refusal, accepted, refused}
 use Rattle.codec.specs.Plans.{unpack, unpackAnswer, tableAfter}
 use Rattle.packing.specs.Bytes.{bytesOf}
 use Rattle.packing.specs.Packing.{pack, packAnswer, bytesAfter}
+use Rattle.guarantees.specs.Questions.{i16, constant}
 use Rattle.guarantees.specs.Demand3.{word}
 use Rattle.guarantees.specs.Acceptance.{Nodes}
 use Rattle.guarantees.specs.Rules.{Exactly, From, usesWord, Rule2, Rule3}
@@ -67,6 +68,8 @@ pub record PacksExactly : Type 0 where
   -- every outcome has its condition, so no other function than packing meets these two
   pub accepted-when : (t : List ℤ) (room : ℕ) (b : List ℕ) → Exactly (pack t room ≡ accepted b) (File t b × (length b ≤ room))
   pub refused-when : (t : List ℤ) (room : ℕ) (r : Refusal) → Exactly (pack t room ≡ refused r) (PackRefuses t room r)
+  -- there are files: "01 00 04 0A" is that of a CONST of i16 5
+  pub example : File (constant i16 (pos 5)) (1 ∷ 0 ∷ 4 ∷ 10 ∷ [])
   -- "256 nodes take at most 11778": with so much room every table that is taken is written
   pub short : (t : List ℤ) (b : List ℕ) → File t b → length b ≤ 11778
 
