@@ -15,7 +15,7 @@ use Rattle.laws.proofs.Lists.{last-is}
 use Rattle.plan.specs.declared.ElementNumber.{ElementNumber}
 use Rattle.plan.specs.Operations.{PARAM, IDIV, MOD}
 use Rattle.plan.specs.Types.{between, holds}
-use Rattle.plan.specs.Words.{nodeAt, nodeCount, element, lengthRight}
+use Rattle.plan.specs.Words.{nodeAt, nodeCount, element}
 use Rattle.plan.specs.Answers.{Outcome, accepted}
 use Rattle.plan.proofs.ByOperation.{divides-uses}
 use Rattle.bounds.proofs.Sound.{holding}

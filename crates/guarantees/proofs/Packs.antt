@@ -2,7 +2,7 @@
 use Prim.Native.Nat.{ℕ, zero, suc, _+_, _*_, _/_, _<_, _≤_}
 use mathlib.Core.Path.{_≡_, refl, sym, ap, subst, _∙_}
 use mathlib.Core.Bool.{Bool, true, false, not, cond, false≢true}
-use mathlib.Core.Logic.{_⊎_, inl, inr, ⊎-elim}
+use mathlib.Core.Logic.{_⊎_, ⊎-elim}
 use mathlib.Core.List.{List, [], _∷_, _++_}
 use native.Mathlib.Nat.{add-zero, zero-add, le-refl}
 use native.Mathlib.Omega.{arith}
@@ -16,7 +16,7 @@ use Rattle.laws.proofs.Booleans.{bool-cases, or-true, all-below, all-below-of}
 use Rattle.plan.specs.Operations.{uses, operationCount}
 use Rattle.plan.specs.Types.{holds}
 use Rattle.plan.specs.Words.{wordAt, sizeAt, wordsOf, nodeOf, nodeAt, nodeCount, lengthRight, unusedZero}
-use Rattle.plan.specs.Answers.{Refusal, Outcome, accepted, refused, refuse, need, andThen, inTurn, Rule, rule, inOrder, AllHold, FirstFailing, written}
+use Rattle.plan.specs.Answers.{Refusal, Outcome, accepted, refused, refuse, need, andThen, inTurn, rule, AllHold, FirstFailing, written}
 use Rattle.plan.proofs.Outcomes.{never-both, accepted-same, refused-same, turn-more, turn-stays, turn-refused, order-refused, order-fails, some-rule, fails-cases, fails-here, holds-then}
 use Rattle.plan.proofs.Decoding.{word-at}
 use Rattle.bounds.proofs.Sound.{held, holding}
@@ -34,8 +34,8 @@ use Rattle.verifier.specs.Meets.{ruleHolds}
 use Rattle.guarantees.specs.Questions.{i16, constant}
 use Rattle.guarantees.specs.Demand3.{word}
 use Rattle.guarantees.specs.Acceptance.{Nodes}
-use Rattle.guarantees.specs.Rules.{Exactly, usesWord, Rule2, Rule3}
-use Rattle.guarantees.specs.Unpacks.{Unpacks, UnpackRefuses, bad-number, bad-count, no-room, left-over, NumberRefuses, bytes-end, too-long, padded}
+use Rattle.guarantees.specs.Rules.{Exactly, Rule2, Rule3}
+use Rattle.guarantees.specs.Unpacks.{UnpackRefuses, bad-number, bad-count, no-room, left-over, NumberRefuses, bytes-end, too-long, padded}
 use Rattle.guarantees.specs.Unpacks as unpacks
 use Rattle.guarantees.specs.Packs.{Rule25, Packable, Before, Takes, AreBytes, File, PackRefuses, bad-length, bad-operation, unused-word, outside, PacksExactly, OneForm, RoundTrips}
 use Rattle.guarantees.specs.Packs as packs
@@ -96,7 +96,7 @@ module _ (t : List ℤ) (n : ℕ) where
       says-25 : Exactly (usedInRange (sizeAt (wordsOf t n) 0) (wordsOf t n) ≡ true) (Rule25 t n o)
       says-25 = (λ e. range-of (rw size-is at e), λ r. rw size-is (of-range r))
 
-  pub packable-of : AllHold (packRules (wordsOf t n)) → Packable t n
+  packable-of : AllHold (packRules (wordsOf t n)) → Packable t n
   packable-of h =
       let o : ℕ = sizeAt (wordsOf t n) 0 in
       let small : o < 21 = ltb-true o 21 (h .0) in
@@ -104,7 +104,7 @@ module _ (t : List ℤ) (n : ℕ) where
       let low : o ≤ 20 = omega arith in
       record { operation = o; is-operation = q; rule-2 = says-2 .0 (h .0); rule-3 = says-3 o q low .0 (h .1 .0); rule-25 = says-25 o q low .0 (h .1 .1 .0) }
 
-  pub of-packable : Packable t n → AllHold (packRules (wordsOf t n))
+  of-packable : Packable t n → AllHold (packRules (wordsOf t n))
   of-packable p =
       let low = known (p .operation) (p .is-operation) (p .rule-2) in
       (says-2 .1 (p .rule-2), (says-3 (p .operation) (p .is-operation) low .1 (p .rule-3), (says-25 (p .operation) (p .is-operation) low .1 (p .rule-25), tt)))

@@ -1,6 +1,6 @@
 -- "It takes exactly the tables that meet rules 1, 2 and 3 and whose used words lie in −17179869184..17179869183."
 use Prim.Native.Nat.{ℕ, zero, suc, _<_, _≤_}
-use mathlib.Core.Path.{_≡_, refl, sym, ap, _∙_}
+use mathlib.Core.Path.{_≡_, refl, _∙_}
 use mathlib.Core.Bool.{true}
 use mathlib.Core.List.{List, _++_}
 use mathlib.Core.Logic.{⊎-elim}
@@ -9,15 +9,12 @@ use native.Mathlib.Omega.{arith}
 use borrow.Author.Tests.{leb-true, le-leb, lt-leb}
 use lib.Dec.{leb}
 use lib.IntN.{ℤ}
-use lib.ListN.{length, take, drop}
-use lib.Seq.{take-append-seam}
+use lib.ListN.{length}
 use Rattle.plan.specs.Words.{wordsOf, nodeCount, lengthRight}
-use Rattle.plan.specs.Answers.{accepted, refuse, inTurn, AllHold, written}
+use Rattle.plan.specs.Answers.{accepted, refuse, inTurn, AllHold}
 use Rattle.plan.proofs.Outcomes.{accepted-same, need-accepted, then-accepted, turn-last, turn-more, order-accepted, order-holds}
 use Rattle.packing.specs.Bytes.{bytesOf}
-use Rattle.packing.specs.Packing.{packRules, nodeBytes, packNode, pack, packAnswer, bytesAfter}
-use Rattle.codec.specs.Plans.{unpack, tableAfter}
-use Rattle.packing.proofs.PlansBack.{read-of-written}
+use Rattle.packing.specs.Packing.{packRules, nodeBytes, packNode, pack}
 
 -- rules 1, 2, 3 and 25
 pub record Packable (t : List ℤ) : Type 0 where
@@ -72,11 +69,3 @@ takes-all t p =
 
 pub takes : Takes
 takes = record { only = takes-only; all = takes-all }
-
--- the same through the calls' buffers: what the answer counts, taken from the bytes' buffer, is read back into the table
-pub through-buffers : (t : List ℤ) (buffer : List ℕ) (table : List ℤ) (b : List ℕ) → pack t (length buffer) ≡ accepted b → length t ≤ length table
-    → tableAfter (unpack (take (packAnswer (pack t (length buffer)) .count) (bytesAfter (pack t (length buffer)) buffer)) (length table)) table ≡ t ++ drop (length t) table
-unfolding written
-through-buffers t buffer table b e room =
-    let bytes : take (length b) (b ++ drop (length b) buffer) ≡ b = take-append-seam b (drop (length b) buffer) in
-    rw (e, bytes, read-of-written t (length buffer) b e (length table) room) refl

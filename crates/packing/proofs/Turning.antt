@@ -1,8 +1,8 @@
 -- The nodes of a table as they are written, one after another.
-use Prim.Native.Nat.{ℕ, zero, suc, _+_, _*_, _/_, _%_, _<_, _≤_}
-use mathlib.Core.Path.{_≡_, refl, sym, ap, subst, _∙_}
-use mathlib.Core.Bool.{true, false, _&&_}
-use mathlib.Core.List.{List, [], _∷_, _++_}
+use Prim.Native.Nat.{ℕ, suc, _+_, _*_, _/_, _%_, _<_, _≤_}
+use mathlib.Core.Path.{_≡_, refl, sym, ap, _∙_}
+use mathlib.Core.Bool.{true, false}
+use mathlib.Core.List.{List, _++_}
 use native.Mathlib.Nat.{add-zero}
 use native.Mathlib.Numerals.{add-one}
 use native.Mathlib.Omega.{arith}
@@ -10,12 +10,12 @@ use borrow.Author.Tests.{le-leb, lt-leb, leb-true}
 use lib.Dec.{leb, eqb}
 use lib.IntN.{ℤ, pos}
 use lib.ListN.{length, getD, take, drop, length-append}
-use lib.Seq.{sets, sets-eq, take-at, length-take-le}
+use lib.Seq.{sets-eq, take-at, length-take-le}
 use Rattle.laws.proofs.Booleans.{and-true}
 use Rattle.plan.specs.declared.Answer.{Answer}
 use Rattle.plan.specs.Operations.{masks}
 use Rattle.plan.specs.Words.{sizeOf, wordsOf, nodeCount, lengthRight}
-use Rattle.plan.specs.Answers.{Refusal, Outcome, accepted, refused, refuse, need, andThen, inTurn, written}
+use Rattle.plan.specs.Answers.{Outcome, accepted, refused, refuse, inTurn, written}
 use Rattle.plan.proofs.Decoding.{word-at}
 use Rattle.plan.proofs.Outcomes.{turn-more, turn-stays, order-holds, order-fails}
 use Rattle.codec.specs.declared.Step.{Step}

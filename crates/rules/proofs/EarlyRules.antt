@@ -1,15 +1,13 @@
 -- Rules 3 to 5 by the mask of used words.
-use Prim.Native.Nat.{ℕ, zero, suc, _+_, _<_, _≤_, _^_, _/_, _%_}
-use mathlib.Core.Path.{_≡_, refl, sym, _∙_}
-use mathlib.Core.Bool.{Bool, true, false, _&&_, _||_, not, true≢false, false≢true}
+use Prim.Native.Nat.{ℕ, zero, _<_, _≤_, _^_, _/_, _%_}
+use mathlib.Core.Path.{_≡_, refl, _∙_}
+use mathlib.Core.Bool.{Bool, true, false, not}
 use mathlib.Core.List.{List}
-use native.Mathlib.Numerals.{add-one}
 use native.Mathlib.Omega.{arith}
 use lib.IntN.{ℤ}
 use borrow.Author.Tests.{le-ltb, lt-ltb}
-use lib.Dec.{eqb, ltb, eqb·suc-zero}
-use Rattle.laws.specs.Lists.{allBelow}
-use Rattle.laws.proofs.Booleans.{all-below-snoc, off, on}
+use lib.Dec.{eqb, ltb}
+use Rattle.laws.proofs.Booleans.{off, on}
 use Rattle.plan.specs.Operations.{uses}
 use Rattle.plan.specs.declared.Node.{Node}
 use Rattle.plan.specs.Words.{wordsOf, nodeAt, unusedZero}

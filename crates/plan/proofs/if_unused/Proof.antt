@@ -1,4 +1,4 @@
-use mathlib.Core.Path.{refl, sym}
+use mathlib.Core.Path.{refl}
 use Rattle.laws.proofs.Machine.{R-is}
 use Rattle.plan.proofs.if_unused.Statement.{statement}
 use Rattle.plan.proofs.if_unused.Tie as tie
