@@ -48,8 +48,9 @@ facts =
     -- "movement (2–7) and LOAD, the source's"; "CAST the source's"
     ∷ one PERMUTE (between (negsuc 3) (pos 10)) is between (negsuc 3) (pos 10)
     ∷ one CAST (between (negsuc 3) (pos 10)) is between (negsuc 3) (pos 10)
-    -- "i16 [−16384,16383] added to itself: [−32768,32766]."
+    -- "ADD [a+b,A+B]": [−16384,16383] with itself, which leaves i16 (02 §2); "[−16383,16383] gives [−32766,32766]"
     ∷ two ADD (between (negsuc 16383) (pos 16383)) (between (negsuc 16383) (pos 16383)) is between (negsuc 32767) (pos 32766)
+    ∷ two ADD (between (negsuc 16382) (pos 16383)) (between (negsuc 16382) (pos 16383)) is between (negsuc 32765) (pos 32766)
     -- "MUL least and greatest of four products": 15 −21 −10 14, and 14 −10 −21 15
     ∷ two MUL (between (negsuc 2) (pos 2)) (between (negsuc 4) (pos 7)) is between (negsuc 20) (pos 15)
     ∷ two MUL (between (negsuc 1) (pos 3)) (between (negsuc 6) (pos 5)) is between (negsuc 20) (pos 15)

@@ -17,6 +17,7 @@ pub mod Unpacks
 pub mod Packs
 pub mod Demands
 pub mod Runs
+pub mod Ranges
 pub mod Premises
 pub mod Whole
 pub mod Records

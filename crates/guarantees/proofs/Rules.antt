@@ -1,6 +1,6 @@
 -- The rules by their tests and in the paper's words.
 use Prim.Native.Nat.{ℕ, zero, suc, _+_, _-_, _<_, _≤_}
-use mathlib.Core.Path.{_≡_, refl, ap, sym, _∙_}
+use mathlib.Core.Path.{_≡_, refl, ap, sym, _∙_, subst}
 use mathlib.Core.Bool.{Bool, true, false, _&&_, not, cond, false≢true, true≢false}
 use mathlib.Core.Logic.{_⊎_, inl, inr, ⊎-elim}
 use mathlib.Core.List.{List, [], _∷_}
@@ -31,7 +31,7 @@ use Rattle.verifier.specs.Check.{first, second, third, deriveNode}
 use Rattle.verifier.specs.Meets.{ruleHolds}
 use Rattle.verifier.proofs.Nodes.{sources-before}
 use Rattle.guarantees.specs.Demand3.{word, asCount}
-use Rattle.guarantees.specs.Rules.{Exactly, From, usesWord, source, Rule2, Rule3, Rule4, Rule5, Rule6, RowOf, ShapeRow, PermutationRow, Rule7, IsRow, Rule8, Rule9, Rule10, Rule11, RulesSay}
+use Rattle.guarantees.specs.Rules.{Exactly, From, usesWord, source, Rule2, Rule3, Rule4, Rule5, Rule6, RowOf, ShapeRow, PermutationRow, Rule7, IsRow, Rule8, Rule9, Rule10, InType, Rule11, RulesSay}
 use Rattle.guarantees.proofs.Words.{size-is, as-count, op-size, op-of, low-word, high-word, first-node, second-node, third-node, dtype-size, device-size, number-word, row-a-at, row-b-at}
 use Rattle.guarantees.proofs.RowWords.{size-from, from-size, size-from-1, from-1-size, size-zero, size-below, below-size, flags-say, offsets-say, shape-says, row-is, permutation-says}
 use Rattle.guarantees.proofs.ShapeWords.{shapes-say}
@@ -148,13 +148,30 @@ ends r b = (
   λ w. and-true-of _ _ (holding r (b .low) (record { low = w .0 .0; high = w .0 .1 })) (holding r (b .high) (record { low = w .1 .0; high = w .1 .1 })),
 )
 
-ranges : (d : ℕ) (b : Interval) → d ≤ 3 → Exactly (contains (rangeOf d) b ≡ true) (Rule11 d (b .low) (b .high))
+-- a number of a type's range, in the paper's numbers; any range is good for a number that is no type
+pub in-range : (d : ℕ) (z : ℤ) → From (rangeOf d .low) (rangeOf d .high) z → InType d z
 unfolding rangeOf
-ranges zero b h = let w = ends (rangeOf 0) b in (λ e. record { bool = λ q. w .0 e; u8 = λ q. absurd (omega (arith, q)); i16 = λ q. absurd (omega (arith, q)); i32 = λ q. absurd (omega (arith, q)) }, λ r. w .1 (r .bool refl))
-ranges (suc zero) b h = let w = ends (rangeOf 1) b in (λ e. record { bool = λ q. absurd (omega (arith, q)); u8 = λ q. w .0 e; i16 = λ q. absurd (omega (arith, q)); i32 = λ q. absurd (omega (arith, q)) }, λ r. w .1 (r .u8 refl))
-ranges (suc (suc zero)) b h = let w = ends (rangeOf 2) b in (λ e. record { bool = λ q. absurd (omega (arith, q)); u8 = λ q. absurd (omega (arith, q)); i16 = λ q. w .0 e; i32 = λ q. absurd (omega (arith, q)) }, λ r. w .1 (r .i16 refl))
-ranges (suc (suc (suc zero))) b h = let w = ends (rangeOf 3) b in (λ e. record { bool = λ q. absurd (omega (arith, q)); u8 = λ q. absurd (omega (arith, q)); i16 = λ q. absurd (omega (arith, q)); i32 = λ q. w .0 e }, λ r. w .1 (r .i32 refl))
-ranges (suc (suc (suc (suc d)))) b h = absurd (omega arith)
+in-range d z w =
+    record { bool = λ q. at q; u8 = λ q. at q; i16 = λ q. at q; i32 = λ q. at q }
+  where
+    at : {k : ℕ} → d ≡ k → From (rangeOf k .low) (rangeOf k .high) z
+    at q = subst (λ (d : ℕ). From (rangeOf d .low) (rangeOf d .high) z) q w
+
+type-in : (d : ℕ) (z : ℤ) → d ≤ 3 → InType d z → From (rangeOf d .low) (rangeOf d .high) z
+unfolding rangeOf
+type-in zero z h w = w .bool refl
+type-in (suc zero) z h w = w .u8 refl
+type-in (suc (suc zero)) z h w = w .i16 refl
+type-in (suc (suc (suc zero))) z h w = w .i32 refl
+type-in (suc (suc (suc (suc d)))) z h w = absurd (omega arith)
+
+pub type-range : (d : ℕ) (z : ℤ) → d ≤ 3 → Exactly (From (rangeOf d .low) (rangeOf d .high) z) (InType d z)
+type-range d z h = (in-range d z, type-in d z h)
+
+pub ranges : (d : ℕ) (b : Interval) → d ≤ 3 → Exactly (contains (rangeOf d) b ≡ true) (Rule11 d (b .low) (b .high))
+ranges d b h =
+    let w = ends (rangeOf d) b in
+    (λ e. (in-range d (b .low) (w .0 e .0), in-range d (b .high) (w .0 e .1)), λ r. w .1 (type-in d (b .low) h (r .0), type-in d (b .high) h (r .1)))
 
 -- ---- rules 2 to 5
 

@@ -1,4 +1,4 @@
--- "Those marked ● are proved together, as a single table under a single statement, about the rules themselves."
+-- "Those marked ● are proved together, as a single table under a single statement, about the rules themselves."; where 02 changes one, it is as 02 gives it.
 use Prim.Native.Nat.{ℕ}
 use mathlib.Core.Path.{_≡_}
 use mathlib.Core.List.{List, [], _∷_, _++_, map}
@@ -9,8 +9,9 @@ use Rattle.guarantees.specs.Questions.{u8, i16, i32, param, constant, mo
 
 abbrev pub marked : List Example
 marked =
-    -- "i16 [−16384,16383] added to itself: [−32768,32766]."
-    boundsOf (param 0 i16 (negsuc 16383) (pos 16383) (4 ∷ []) ++ binary ADD 0 0) says bounds (negsuc 32767) (pos 32766)
+    -- 02 §2: "The marked example of [−16384,16383] added to itself is now refused 11; [−16383,16383] gives [−32766,32766] and is accepted."
+    boundsOf (param 0 i16 (negsuc 16383) (pos 16383) (4 ∷ []) ++ binary ADD 0 0) says refusal 11 1
+    ∷ boundsOf (param 0 i16 (negsuc 16382) (pos 16383) (4 ∷ []) ++ binary ADD 0 0) says bounds (negsuc 32765) (pos 32766)
     -- "[−20000,20000] to itself: refused 11."
     ∷ boundsOf (param 0 i16 (negsuc 19999) (pos 20000) (4 ∷ []) ++ binary ADD 0 0) says refusal 11 1
     -- "u8 [0,255] times 2: refused 11."

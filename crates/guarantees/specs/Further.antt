@@ -76,6 +76,21 @@ further =
     ∷ boundsOf (constant 0 (pos 1) ++ pos 9 ∷ pos 0 ∷ pos 0 ∷ pos 1 ∷ zeros 13) says refusal 3 1
     ∷ boundsOf (constant i16 (pos 1) ++ binary ADD 0 1) says refusal 4 1
     ∷ boundsOf (constant 4 (pos 1)) says refusal 5 0
+    -- 11 at the ends of i16 (02 §2): a CONST, a PARAM's limits, CAST, a product, a sum
+    ∷ boundsOf (constant i16 (negsuc 32767)) says refusal 11 0
+    ∷ boundsOf (constant i16 (negsuc 32766)) says bounds (negsuc 32766) (negsuc 32766)
+    ∷ boundsOf (constant i16 (pos 32767)) says bounds (pos 32767) (pos 32767)
+    ∷ boundsOf (constant i16 (pos 32768)) says refusal 11 0
+    ∷ boundsOf (param 0 i16 (negsuc 32767) (pos 32767) (1 ∷ [])) says refusal 11 0
+    ∷ boundsOf (param 0 i16 (negsuc 32766) (pos 32767) (1 ∷ [])) says bounds (negsuc 32766) (pos 32767)
+    ∷ boundsOf (param 0 i32 (negsuc 32767) (pos 0) (1 ∷ []) ++ cast 0 i16) says refusal 11 1
+    ∷ boundsOf (param 0 i32 (negsuc 32766) (pos 0) (1 ∷ []) ++ cast 0 i16) says bounds (negsuc 32766) (pos 0)
+    ∷ boundsOf (constant i16 (negsuc 127) ++ constant i16 (pos 256) ++ binary MUL 0 1) says refusal 11 2
+    ∷ boundsOf (param 0 i16 (negsuc 16383) (pos 0) (2 ∷ []) ++ reduce 0 0 (1 ∷ [])) says refusal 11 1
+    -- −32768 in the input: known it is 16 at an i16 PARAM, under a gap it is not looked at, and for an i32 it is a number
+    ∷ cellsOf (param 0 i16 (negsuc 32766) (pos 32767) (2 ∷ [])) (pos 1 ∷ negsuc 32767 ∷ []) (1 ∷ 1 ∷ []) says refusal 16 1
+    ∷ cellsOf (param 0 i16 (negsuc 32766) (pos 32767) (2 ∷ [])) (pos 1 ∷ negsuc 32767 ∷ []) (1 ∷ 0 ∷ []) says cells (known (pos 1) ∷ gap ∷ [])
+    ∷ cellsOf (param 0 i32 (negsuc 32767) (pos 32767) (2 ∷ [])) (pos 1 ∷ negsuc 32767 ∷ []) (1 ∷ 1 ∷ []) says cells (known (pos 1) ∷ known (negsuc 32767) ∷ [])
     -- 13: either length; 14: either buffer; 15 before 16 at one position, the first bad position first
     ∷ cellsOf (param 0 i16 (negsuc 8) (pos 9) (2 ∷ [])) (pos 1 ∷ []) (1 ∷ 1 ∷ []) says refusal 13 0
     ∷ cellsOf (param 0 i16 (negsuc 8) (pos 9) (2 ∷ [])) (pos 1 ∷ pos 1 ∷ []) (1 ∷ []) says refusal 13 0

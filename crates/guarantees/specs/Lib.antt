@@ -11,6 +11,7 @@ pub mod Acceptance
 pub mod Values
 pub mod Records
 pub mod Runs
+pub mod Ranges
 pub mod Checks
 pub mod Unpacks
 pub mod Packs

@@ -158,12 +158,17 @@ Rule9 t n earlier o =
 abbrev pub Rule10 : List ℤ → ℕ → List Derived → ℕ → Type 0
 Rule10 t n earlier o = (o ≡ 12) ⊎ (o ≡ 13) → source t n earlier 2 .bounds .low ≤ℤ pos 0 → pos 0 ≤ℤ source t n earlier 2 .bounds .high → ⊥
 
--- "bounds leave the type": "0 bool (0..1), 1 u8 (0..255), 2 i16 (−32768..32767), 3 i32 (−2147483648..2147483647)"; negsuc n is −(n + 1)
-pub record Rule11 (dtype : ℕ) (low high : ℤ) : Type 0 where
-  pub bool : dtype ≡ 0 → From (pos 0) (pos 1) low × From (pos 0) (pos 1) high
-  pub u8 : dtype ≡ 1 → From (pos 0) (pos 255) low × From (pos 0) (pos 255) high
-  pub i16 : dtype ≡ 2 → From (negsuc 32767) (pos 32767) low × From (negsuc 32767) (pos 32767) high
-  pub i32 : dtype ≡ 3 → From (negsuc 2147483647) (pos 2147483647) low × From (negsuc 2147483647) (pos 2147483647) high
+-- a number of a type: "0 bool (0..1), 1 u8 (0..255), 2 i16 .., 3 i32 (−2147483648..2147483647)"; 02 §2: "The range of i16 becomes −32767..32767"; negsuc n is
+-- −(n + 1)
+pub record InType (dtype : ℕ) (z : ℤ) : Type 0 where
+  pub bool : dtype ≡ 0 → From (pos 0) (pos 1) z
+  pub u8 : dtype ≡ 1 → From (pos 0) (pos 255) z
+  pub i16 : dtype ≡ 2 → From (negsuc 32766) (pos 32767) z
+  pub i32 : dtype ≡ 3 → From (negsuc 2147483647) (pos 2147483647) z
+
+-- "bounds leave the type"
+abbrev pub Rule11 : ℕ → ℤ → ℤ → Type 0
+Rule11 dtype low high = InType dtype low × InType dtype high
 
 -- ---- the test of each number
 

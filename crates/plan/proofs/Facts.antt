@@ -57,7 +57,7 @@ facts =
     ∷ (used LOAD is numbers (1 ∷ 6 ∷ []))
     ∷ (range (rangeOf 0) is range (between (pos 0) (pos 1)))
     ∷ (range (rangeOf 1) is range (between (pos 0) (pos 255)))
-    ∷ (range (rangeOf 2) is range (between (negsuc 32767) (pos 32767)))
+    ∷ (range (rangeOf 2) is range (between (negsuc 32766) (pos 32767)))
     ∷ (range (rangeOf 3) is range (between (negsuc 2147483647) (pos 2147483647)))
     ∷ (size (sizeOf (pos 5)) is size 5)
     ∷ (size (sizeOf (negsuc 0)) is size 18446744073709551615)

@@ -18,12 +18,13 @@ holds i z = leZ (i .low) z && leZ z (i .high)
 unfoldable pub contains : Interval → Interval → Bool
 contains i j = holds i (j .low) && holds i (j .high)
 
--- "Types: 0 bool (0..1), 1 u8 (0..255), 2 i16 (−32768..32767), 3 i32 (−2147483648..2147483647)."; negsuc n is −(n + 1)
+-- "Types: 0 bool (0..1), 1 u8 (0..255), 2 i16 .., 3 i32 (−2147483648..2147483647)."; 02 §2: "The range of i16 becomes −32767..32767, wherever a type's range is
+-- asked for." negsuc n is −(n + 1)
 abbrev pub typeRanges : List Interval
 typeRanges =
     between (pos 0) (pos 1)
     ∷ between (pos 0) (pos 255)
-    ∷ between (negsuc 32767) (pos 32767)
+    ∷ between (negsuc 32766) (pos 32767)
     ∷ between (negsuc 2147483647) (pos 2147483647)
     ∷ []
 

@@ -103,7 +103,7 @@ pub fn type_range(t: usize) -> Interval
         0 => Interval { low: 0, high: 1 },
         1 => Interval { low: 0, high: 255 },
         2 => Interval {
-            low: -32768,
+            low: -32767,
             high: 32767,
         },
         3 => Interval {
