@@ -18,7 +18,7 @@ written a word an axis, as 3x4, and - where there are no axes; a shape has no 0.
 
 All rows but the shapes of param and reshape have a word for each axis of the source. Nothing else is checked
 of a plan: `lup check` does. --back unpacks by the library: what LUPETZARIN_LIBRARY names, else that of the
-checkout or that installed with this program, else what the loader finds under the name liblupetzarin.so.4.
+checkout or that installed with this program, else what the loader finds under the name liblupetzarin.so.5.
 """
 import argparse
 import ctypes
@@ -33,7 +33,7 @@ from contextlib import contextmanager, suppress
 # as it is called: lupasm.py in the checkout, lupasm where it is installed
 PROGRAM = os.path.basename(__file__)
 # where the library lies, from the folder over this program's own; else the loader is asked for the last part
-LIBRARIES = 'build/liblupetzarin.so', 'lib/liblupetzarin.so.4'
+LIBRARIES = 'build/liblupetzarin.so', 'lib/liblupetzarin.so.5'
 TYPES = ('bool', 'u8', 'i16', 'i32')
 NODE_WORDS, MOST_NODES = 17, 256
 SOURCE, TYPE, NUMBER, DEVICE, LOW, HIGH, ROW_A, ROW_B = 1, 4, 5, 6, 7, 8, 9, 13

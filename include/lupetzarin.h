@@ -18,8 +18,8 @@ extern "C" {
 #endif
 
 /* The version of this header; CHANGELOG.md says what a version promises. LUP_VERSION is one number, to compare; LUP_VERSION_TEXT has points between. */
-#define LUP_VERSION_MAJOR 4
-#define LUP_VERSION_MINOR 1
+#define LUP_VERSION_MAJOR 5
+#define LUP_VERSION_MINOR 0
 #define LUP_VERSION_PATCH 0
 #define LUP_VERSION (LUP_VERSION_MAJOR * 1000000 + LUP_VERSION_MINOR * 1000 + LUP_VERSION_PATCH)
 #define LUP_VERSION_JOINED(major, minor, patch) #major "." #minor "." #patch
@@ -73,7 +73,7 @@ enum lup_operation {
 enum lup_type {
     LUP_TYPE_BOOL = 0, /* 0, 1 */
     LUP_TYPE_U8 = 1,   /* 0..255 */
-    LUP_TYPE_I16 = 2,  /* -32768..32767 */
+    LUP_TYPE_I16 = 2,  /* -32767..32767; -32768 is no number of this type */
     LUP_TYPE_I32 = 3   /* -2147483648..2147483647 */
 };
 
@@ -174,7 +174,8 @@ uint64_t lup_unpack_check(const uint8_t *bytes, size_t nbytes);
  * a gap, whose value has no effect. Writes every element of every node, end to end in node order, a gap as value 0 and flag 0; places past
  * them stay as they were. count: the gaps of the last node, the output. Refusals, in order: those of lup_check but its 14; 13, a length of the
  * input is not the number of all PARAM elements; 14, a result buffer is shorter than all elements of all nodes; 15 or 16 at the first bad
- * position of the input (place: that position): a flag neither 0 nor 1; a known number outside its PARAM's low and high.
+ * position of the input (place: that position): a flag neither 0 nor 1; a known number outside its PARAM's low and high. Those lie in the PARAM's
+ * type, so -32768, which some instruments write for "no reading", is 16 at every i16 PARAM where its flag is 1; with flag 0 it is not looked at.
  * Stack: 62,136 bytes measured on a plan with every kind of node (painted stack, x86-64); 80 KiB is enough. */
 lup_answer lup_run(const int64_t *table, size_t nwords, const int64_t *values, size_t nvalues, const uint8_t *flags, size_t nflags,
                    int64_t *out_values, size_t nout_values, uint8_t *out_flags, size_t nout_flags);

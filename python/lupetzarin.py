@@ -38,7 +38,7 @@ reads it. All else is copied first. What a call writes is fresh memory of this m
 Results are numpy arrays where numpy can be imported, else arrays of array.array.
 
 The library is what LUPETZARIN_LIBRARY names; else liblupetzarin.so beside this file, where pip puts it; else
-build/liblupetzarin.so of the checkout; else what the loader finds under the name liblupetzarin.so.4. One of another
+build/liblupetzarin.so of the checkout; else what the loader finds under the name liblupetzarin.so.5. One of another
 major version, or of an older minor one, is an ImportError. __version__ is this module's version, version() the
 library's.
 """
@@ -63,7 +63,7 @@ if TYPE_CHECKING:
     Memory = Union['array[int]', memoryview, 'numpy.ndarray[Any, Any]']
     Numbers = Union[Iterable[int], Memory]
 
-__version__ = '4.1.0'
+__version__ = '5.0.0'
 __all__ = ['DTYPES', 'FILL_VALUE', 'OPERATIONS', 'Place', 'Plan', 'RULES', 'Record', 'Refused', 'Result', 'check',
            'lookup', 'pack', 'run', 'unpack', 'unpack_check', 'version']
 

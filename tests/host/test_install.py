@@ -30,8 +30,8 @@ CLEAN.update(PYTHONDONTWRITEBYTECODE='1', LC_ALL='C.UTF-8', PIP_CONFIG_FILE=os.d
 # Two numbers, padded to four at 1; a run of 7 and a gap has three gaps.
 with open(os.path.join(ROOT, 'demo', 'small.lup'), encoding='utf-8') as small:
     SMALL = small.read()
-# The calls that programs of version 4.0 are linked with.
-FIRST_CALLS = 'lup_check', 'lup_lookup', 'lup_run', 'lup_unpack', 'lup_unpack_check', 'lup_version'
+# The calls that programs of version 5.0 are linked with.
+FIRST_CALLS = 'lup_check', 'lup_lookup', 'lup_pack', 'lup_run', 'lup_unpack', 'lup_unpack_check', 'lup_version'
 LISTING = 'node op dtype device low high shape\n0 1 2 1 -9 9 2\n1 6 2 1 -9 9 4\naccepted 2\n'
 
 
@@ -118,7 +118,7 @@ def test_files(tally, folder):
     """Every file with its mode, for several prefixes; a second installation over the first; nothing is built again; the same with another umask."""
     before = built()
     for name, words, prefix, libdir in (('a folder', ('PREFIX=/usr',), '/usr', '/usr/lib'), ('plain', (), '/usr/local', '/usr/local/lib'),
-                                        ('opt', ('PREFIX=/opt/lup-4.0',), '/opt/lup-4.0', '/opt/lup-4.0/lib'),
+                                        ('opt', ('PREFIX=/opt/lup-5.0',), '/opt/lup-5.0', '/opt/lup-5.0/lib'),
                                         ('multi', ('PREFIX=/usr', 'LIBDIR=/usr/lib/x86_64-linux-gnu'), '/usr', '/usr/lib/x86_64-linux-gnu')):
         destination = os.path.join(folder, name)
         for time in ('first', 'again'):
@@ -197,7 +197,7 @@ def test_shared(tally, place):
     parents = re.findall(r'Name: (\S+)\n(?:.*Parent 1: (\S+)\n)?', told('readelf', '-VW', shared).split('Version needs')[0])
     nodes = list(versioned())
     tally.same('each version has those before', [pair for pair in parents if pair[0] in nodes], list(zip(nodes, ['', *nodes])))
-    tally.same('calls of version 4.0', [name for name in FIRST_CALLS if f'{name}@@LUPETZARIN_4.0' not in exported], [])
+    tally.same('calls of version 5.0', [name for name in FIRST_CALLS if f'{name}@@LUPETZARIN_5.0' not in exported], [])
     tally.same('versions', [name.partition('@')[0] for kind, name in symbols if kind == 'A'], list(versioned()))
     tally.same('wanted of the C library', sorted(name.partition('@')[0] for kind, name in symbols if kind == 'U'), ['memcpy', 'memset'])
     tally.same('the archive\'s calls', sorted(line.split()[-1] for line in told('nm', '-g', '--defined-only', f'{place}/lib/liblupetzarin.a').splitlines()
@@ -443,10 +443,10 @@ def stub_of(calls):
 
 
 def stub(folder, number, *parts):
-    """A shared object of a library of that version, which is what its lup_version answers; one before 4.1 has the first calls alone."""
+    """A shared object of a library of that version, which is what its lup_version answers."""
     path = os.path.join(folder, *parts)
     os.makedirs(os.path.dirname(path), exist_ok=True)
-    told('gcc', '-w', '-shared', '-o', path, put(stub_of(FIRST_CALLS if number < 4001000 else declared()) % number, folder, 'stub.c'))
+    told('gcc', '-w', '-shared', '-o', path, put(stub_of(declared()) % number, folder, 'stub.c'))
     return path
 
 
@@ -454,6 +454,12 @@ def imported(tree, **more):
     """What the module of a tree says of its library: its version, or its last line where it cannot be imported."""
     status, text, errors = ran('/usr/bin/python3', '-c', 'import lupetzarin; print(lupetzarin.version())', more={'PYTHONPATH': f'{tree}/python', **more}, cwd='/')
     return int(text) if status == 0 else errors.splitlines()[-1]
+
+
+def refused_by(tree, folder, number, text, own):
+    """What the module of a tree, of version own, says of a library of another one, and what it has to say."""
+    path = stub(folder, number, 'other.so')
+    return imported(tree, LUPETZARIN_LIBRARY=path), f"ImportError: lupetzarin: the library '{path}' is version {text}, and this module is {own}"
 
 
 def test_search(tally, folder):
@@ -473,10 +479,12 @@ def test_search(tally, folder):
     tally.same('by the loader', imported(tree, **loader), least + 4)
     cannot = f"ImportError: lupetzarin: the library 'liblupetzarin.so.{major()}' cannot be loaded: "
     tally.same('nowhere', imported(tree)[:len(cannot)], cannot)
-    for number, text in ((first + 1000000, f'{int(major()) + 1}.0.0'), (first - 1, f'{int(major()) - 1}.999.999'), (5002003, '5.2.3'), (0, '0.0.0'),
-                         (4000000, '4.0.0'), (4000999, '4.0.999')):
-        path = stub(tree, number, 'other.so')
-        tally.same(text, imported(tree, LUPETZARIN_LIBRARY=path), f"ImportError: lupetzarin: the library '{path}' is version {text}, and this module is {version()}")
+    for number, text in ((first + 1000000, f'{int(major()) + 1}.0.0'), (first - 1, f'{int(major()) - 1}.999.999'), (first + 1002003, f'{int(major()) + 1}.2.3'),
+                         (0, '0.0.0'), (4001000, '4.1.0')):
+        tally.same(text, *refused_by(tree, tree, number, text, version()))
+    later = f'{major()}.{least // 1000 % 1000 + 1}.0'
+    put(read('python', 'lupetzarin.py').replace(f"__version__ = '{version()}'", f"__version__ = '{later}'"), folder, 'later/python/lupetzarin.py')
+    tally.same('a later module', *refused_by(f'{folder}/later', tree, least + 999, '{}.{}.999'.format(*version().split('.')), later))
     tally.holds('no version', 'lup_version' in str(imported(tree, LUPETZARIN_LIBRARY='libc.so.6')), own)
     tally.same('that of the checkout', imported(ROOT), own)
 
