@@ -100,7 +100,7 @@ typedef struct {
     uint8_t dtype, device, rank;
 } record;
 
-static const int64_t type_low[4] = {0, 0, -32768, -2147483648LL}, type_high[4] = {1, 255, 32767, 2147483647};
+static const int64_t type_low[4] = {0, 0, -32767, -2147483648LL}, type_high[4] = {1, 255, 32767, 2147483647};
 
 static int shape_row(const int64_t *row, record *r) {
     unsigned rank = 0;

@@ -48,6 +48,7 @@ use Rattle.guarantees.specs.Rules.{RulesSay}
 use Rattle.guarantees.specs.Acceptance.{Nodes, Acceptance, bad-node}
 use Rattle.guarantees.specs.Values.{EveryValue, Moved, from, new}
 use Rattle.guarantees.specs.Runs.{RunsExactly}
+use Rattle.guarantees.specs.Ranges.{RangesSay}
 use Rattle.guarantees.specs.Records.{RecordsSay}
 use Rattle.guarantees.specs.Checks.{ChecksExactly}
 use Rattle.guarantees.specs.Unpacks.{UnpacksExactly}
@@ -152,6 +153,16 @@ refuted h = (h .rule-6 twoRules 1 before 19 refl (omega arith) .0 refl) .reduces
     Wrong('rule 3 always holds', 'plan/specs/Words.antt',
           'unusedZero op w = allBelow wordsPerNode', 'unusedZero op w = true || allBelow wordsPerNode', 'RulesSay', '''
 refuted h = never (ap natAbs (h .rule-3 (pos 0 ∷ zeros 8 ++ pos 7 ∷ zeros 7) 0 [] 0 refl (omega arith) .0 refl 9 (omega arith) (omega arith) refl)) (λ e. absurd (omega (arith, e)))
+'''),
+    Wrong('i16 from −32768', 'plan/specs/Types.antt',
+          'between (negsuc 32766) (pos 32767)', 'between (negsuc 32767) (pos 32767)', 'RulesSay', '''
+refuted h = absurd ((h .rule-11 (constant i16 (negsuc 32767)) 0 [] (omega arith) .0 refl) .0 .i16 refl .0 .le)
+'''),
+    Wrong('i16 to 32766', 'plan/specs/Types.antt',
+          'between (negsuc 32766) (pos 32767)', 'between (negsuc 32766) (pos 32766)', 'RangesSay', '''
+refuted h =
+    let most = h .range i16 (pos 32767) (omega arith) .1 (record { bool = λ q. absurd (omega (arith, q)); u8 = λ q. absurd (omega (arith, q)); i16 = λ q. (record { le = tt }, record { le = tt }); i32 = λ q. absurd (omega (arith, q)) }) in
+    absurd (most .1 .le)
 '''),
     Wrong('rule 9 never holds', 'rules/specs/Rules.antt',
           'devicesAgree d e f = oneDevice d e && oneDevice (joinDevice d e) f', 'devicesAgree d e f = false',
