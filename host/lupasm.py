@@ -1,8 +1,8 @@
 #!/usr/bin/env python3
 """Plans as text, a line a node, to packed bytes and back.
 
-A line is `name = operation ..`; `#` begins a comment. Types are bool, u8, i16, i32. Shapes, offsets and flags are
-written a word an axis, as 3x4, and - where there are no axes; a shape has no 0.
+A line is `name = operation ..`; `#` begins a comment. Types are bool, u8, i16 (-32767..32767) and i32. Shapes,
+offsets and flags are written a word an axis, as 3x4, and - where there are no axes; a shape has no 0.
 
     wind = param i16 -500..500 40x12 device 1      its slot is its turn among the PARAMs
     two  = const i16 2

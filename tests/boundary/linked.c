@@ -126,6 +126,33 @@ static void check_examples(void) {
     expect(lup_unpack_check(five, 3) == 20 * 65536 + 3, "cut off: 20 at 3");
 }
 
+/* The ends of i16: a PARAM added to itself, and -32768 known and under a gap. */
+static void i16_examples(void) {
+    static const int64_t param[] = {1, 0, 0, 0, 2, 0, 1, -16384, 16383, 3}, no_reading[] = {7, -32767, -32768}, wanted[] = {7, -32767, 0};
+    static const uint8_t known[] = {1, 1, 1}, gap[] = {1, 1, 0};
+    int64_t table[2 * 17] = {[17] = 9}, derived[ROOM], values[ROOM];
+    uint8_t flags[ROOM];
+
+    memcpy(table, param, sizeof param);
+    fill(derived);
+    expect(answers(lup_check(table, 2 * 17, derived, ROOM), 11, 1, 0), "[-16384,16383] added to itself: refused 11");
+    expect(stays(derived, 0), "refused: the words as they were");
+    table[7] = -16383;
+    expect(answers(lup_check(table, 2 * 17, derived, ROOM), 0, 0, 0), "[-16383,16383] added to itself: accepted");
+    expect(derived[10] == -32766 && derived[11] == 32766, "[-16383,16383] added to itself: [-32766,32766]");
+    table[7] = -32768;
+    expect(answers(lup_check(table, 17, derived, ROOM), 11, 0, 0), "a low limit of -32768: refused 11");
+
+    table[7] = -32767;
+    fill(values);
+    fill_bytes(flags);
+    expect(answers(lup_run(table, 17, no_reading, 3, known, 3, values, ROOM, flags, ROOM), 16, 2, 0), "-32768 known: refused 16 at 2");
+    expect(stays(values, 0) && bytes_stay(flags, 0), "-32768 known: both buffers as they were");
+    expect(answers(lup_run(table, 17, no_reading, 3, gap, 3, values, ROOM, flags, ROOM), 0, 0, 1), "-32768 under a gap: accepted, one gap");
+    expect(!memcmp(values, wanted, sizeof wanted) && stays(values, 3), "-32768 under a gap: 7 -32767 gap");
+    expect(!memcmp(flags, gap, sizeof gap) && bytes_stay(flags, 3), "-32768 under a gap: its flags");
+}
+
 /* PARAM of two i16 numbers in -9..9, padded to four at 1, and the sum of all four. */
 static void small_plan(int64_t *table) {
     static const int64_t param[] = {1, 0, 0, 0, 2, 0, 1, -9, 9, 2}, pad[] = {6, 0, 0, 0, 0, 0, 0, 0, 0, 4, 0, 0, 0, 1};
@@ -185,6 +212,7 @@ int main(void) {
     unpack_examples();
     pack_examples();
     check_examples();
+    i16_examples();
     run_examples();
     lookup_examples();
     printf("%u passed, %u failed\n", passed, failed);

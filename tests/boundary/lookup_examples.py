@@ -1,4 +1,5 @@
-"""Lookups by hand: every answer is written here from the sentence of 01 above it. test_lookup.py and the program vectors run them."""
+"""Lookups by hand: every answer is written here from the sentence of 01 above it, or of 02 where (02) stands before it. test_lookup.py and the program
+vectors run them."""
 
 from collections import namedtuple
 
@@ -79,6 +80,7 @@ FOUND = [
     *found('REDUCE', SIX + reduce_node(0, 0, (0, 1)) + move(FLIP, 1, (1, 0)), 2, (1, 1), (1, 0)),
     *found('a PARAM', SIX, 0, *((0, k) for k in range(6))),
     *found('a CONST', const(I16, 5), 0, (0, 0)),
+    *found('the least CONST of i16', const(I16, -32767), 0, (0, 0)),
     *found('a node before the last', TURNED + move(FLIP, 1, (1, 0)), 1, (0, 0), (0, 3), (0, 1), (0, 4), (0, 2), (0, 5)),
 ]
 REFUSED = [
@@ -94,6 +96,8 @@ REFUSED = [
     refused('2 before 17', 2, 1, SIX + node(21), 9, 9),
     refused('4 before 17', 4, 1, SIX + move(FLIP, 1, (1, 0)), 9, 9),
     refused('11 of a node after the one asked', 11, 2, TURNED + const(BOOL, 2), 1, 3),
+    # (02) "The range of i16 becomes −32767..32767, wherever a type's range is asked for."
+    refused('11 of −32768', 11, 2, TURNED + const(I16, -32768), 1, 3),
     refused('12 before 17', 12, 0, large(*[(LARGE,)] * 4) + const(BOOL, 1), 9, 0),
 ]
 

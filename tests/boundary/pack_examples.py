@@ -66,6 +66,8 @@ WORDS = ((0, '00'), (1, '02'), (-1, '01'), (2, '04'), (-2, '03'), (5, '0A'), (63
 NUMBERS = [packs(f'the word {word} is {text}', const(I32, word), '01 00 06 ' + text, k % 3) for k, (word, text) in enumerate(WORDS)]
 NUMBERS += [
     packs('one CONST', const(I16, 5), '01 00 04 0A'),
+    # (02) "It takes exactly the tables that meet rules 1, 2 and 3 and whose used words lie in −17179869184..17179869183.": no type's range is asked for
+    packs('−32768 of i16', const(I16, -32768), '01 00 04 FF FF 03'),
     packs('words of five bytes in PARAM', node(PARAM, dict.fromkeys((4, 6, 8, 10, 12), GREATEST) | dict.fromkeys((5, 7, 9, 11), LEAST)),
           '01 01' + 'FE FF FF FF 7F FF FF FF FF 7F' * 4 + 'FE FF FF FF 7F'),
     refused('one above the range', 25, 0, const(I32, 17179869184)),

@@ -13,7 +13,8 @@ from model import (ADD, AND, CAST, CMPLT, CMPNE, EXPAND, FLIP, IDIV, LOAD, MAX, 
 I16, I32 = 2, 3
 WIDE = 1000
 BASE = (2, 3, 2, 2)
-GARBAGE = (-BIG, BIG - 1, 0, 1, -1, 2 ** 32, 32768)
+NO_READING = -32768
+GARBAGE = (-BIG, BIG - 1, 0, 1, -1, 2 ** 32, 32768, NO_READING)
 
 Run = namedtuple('Run', 'note table values flags')
 
@@ -285,7 +286,15 @@ def number_runs():
         yield Run(f'operation {op} at the ends', *each_with_each(op, I32, ends, [1, 2, 3, 65536, high - 1, high, None]))
         yield Run(f'operation {op} at the ends', *each_with_each(op, I32, ends[1:], [low, low + 1, -65536, -3, -2, -1, None]))
         yield Run(f'operation {op} of u8', *each_with_each(op, 1, [0, 1, 127, 128, 255, None], [1, 2, 127, 128, 255, None]))
-    for op, dtype, numbers in ((ADD, I16, [-16384, -1, 0, 1, 16383, None]), (ADD, I32, [-2 ** 30, -1, 0, 2 ** 30 - 1, None]),
+    i16_ends = [-32767, -32766, -1, 0, 1, 32766, 32767, None]
+    yield Run('ADD up to the ends of i16', *each_with_each(ADD, I16, [-16384, -1, 0, 16383, None], [-16383, 0, 1, 16384, None]))
+    yield Run('IDIV at the ends of i16', *each_with_each(IDIV, I16, i16_ends, [-32767, -32766, -2, -1, None]))
+    yield Run('IDIV at the ends of i16', *each_with_each(IDIV, I16, i16_ends, [1, 2, 32766, 32767, None]))
+    yield Run('MOD at the ends of i16', *each_with_each(MOD, I16, i16_ends, [-32767, -32766, -2, -1, None]))
+    yield Run('MOD at the ends of i16', *each_with_each(MOD, I16, i16_ends, [1, 2, 32766, 32767, None]))
+    for op, dtype, numbers in ((ADD, I16, [-16383, -1, 0, 1, 16383, None]), (ADD, I32, [-2 ** 30, -1, 0, 2 ** 30 - 1, None]),
+                               (MAX, I16, i16_ends), (CMPLT, I16, i16_ends), (CMPNE, I16, i16_ends), (MAX, I32, [NO_READING, -32767, 0, None]),
+                               (CMPLT, I32, [NO_READING, -32767, 0, None]), (CMPNE, I32, [NO_READING, -32767, 0, None]),
                                (ADD, 1, [0, 1, 127, None]), (MUL, I32, [-46340, -2, -1, 0, 1, 46340, None]), (MUL, 1, [0, 1, 15, None]),
                                (MAX, I32, [low, -1, 0, high, None]),
                                (CMPLT, I32, [low, low + 1, -1, 0, 1, high, None]), (CMPNE, I32, [low, -1, 0, 1, high, None]),
@@ -293,8 +302,61 @@ def number_runs():
         yield Run(f'operation {op} each with each', *each_with_each(op, dtype, numbers, numbers))
     table = param(0, 0, 0, 1, (3, 1, 1)) + param(1, I32, low, high, (3, 1)) + param(2, I32, low, high, (3,)) + apply(WHERE, 0, 1, 2)
     yield Run('WHERE each with each', *cases.hand_run(table, [0, 1, None, low, 5, None, high, None, 6]).args[:3])
+    table = param(0, 0, 0, 1, (3, 1, 1)) + param(1, I16, -32767, 32767, (4, 1)) + param(2, I16, -32767, 32767, (4,)) + apply(WHERE, 0, 1, 2)
+    yield Run('WHERE at the ends of i16', *cases.hand_run(table, [0, 1, None, -32767, 5, None, 32767, 32767, None, 6, -32767]).args[:3])
+    table = param(0, I16, -4681, 4681, (2, 7)) + reduce_node(0, 0, (0, 1)) + reduce_node(0, 1, (0, 1))
+    yield Run('sums at the ends of i16', *cases.hand_run(table, [-4681] * 7 + [4681] * 7).args[:3])
     table = param(0, I32, 0, 1, (3,)) + sum((node(CAST, {1: k, 4: dtype}) for k, dtype in enumerate((0, 1, 2, 3, 0, 3, 2, 1, 0))), [])
     yield Run('CAST to every type', *cases.hand_run(table + node(LOAD, {1: 9, 6: 255}), [0, 1, None]).args[:3])
+
+
+# -------------------------------------------------------------- no reading
+
+# Limits of i16 that come as near to −32768 as they can, and others; limits of i32 that hold it, and two that do not.
+NO_READING_LIMITS = {I16: ((-32767, 32767), (-32767, -32767), (-32767, 0), (-9, 9), (0, 32767)),
+                     I32: ((-2 ** 31, 2 ** 31 - 1), (NO_READING, NO_READING), (NO_READING, 9), (-32767, 32767), (-9, 9))}
+# What is done at positions of the PARAMs of i16, in order: −32768 known, under a gap or under a bad flag, or another fault.
+NO_READING_WAYS = (('known',), ('known', 'known'), ('gap',), ('gap', 'gap', 'gap'), ('gap', 'known'), ('known', 'gap'), ('flag',), ('known', 'flag'), ('flag', 'known'),
+                   ('known', 15), ('known', 16), (15, 'known'), (16, 'known'), ('gap', 15), ('gap', 16), ('gap', 'known', 16), ('gap', 15, 'known'))
+
+
+def no_reading_plan(rng):
+    """PARAMs of i16 and i32 in turn with such limits, three cells or more of each, and some nodes on them."""
+    plan, base = Chain(300), (rng.randint(3, 4), rng.randint(1, 2))
+    first = rng.randrange(2)
+    for slot in range(rng.randint(2, 4)):
+        dtype = (I16, I32)[(first + slot) % 2]
+        plan.add(param(slot, dtype, *rng.choice(NO_READING_LIMITS[dtype]), base))
+    for _ in range(rng.randint(2, 8)):
+        plan.add(cases.propose(rng, plan, rng.randrange(2, 21), base))
+    return plan
+
+
+def positions_of(plan, dtype):
+    """The positions of the PARAMs of a type among all inputs."""
+    own = [record.dtype for record in plan.params() for _ in range(prod(record.extents))]
+    return [position for position, found in enumerate(own) if found == dtype]
+
+
+def no_reading_inputs(rng, plan, what):
+    """Good inputs, −32768 at some positions of i32, known where the limits hold it; then what is done at positions of i16."""
+    values, flags = cases.random_inputs(rng, plan)
+    limits = [record for record in plan.params() for _ in range(prod(record.extents))]
+    for position in rng.sample(positions_of(plan, I32), 3):
+        values[position], flags[position] = NO_READING, int(limits[position].low <= NO_READING)
+    for done, position in zip(what, sorted(rng.sample(positions_of(plan, I16), len(what)))):
+        if done in (15, 16):
+            cases.spoil(rng, plan, values, flags, done, position)
+        else:
+            values[position], flags[position] = NO_READING, {'known': 1, 'gap': 0, 'flag': rng.choice((2, 255))}[done]
+    return values, flags
+
+
+def no_reading_runs(rng, count):
+    """(what is done, run): each of NO_READING_WAYS in turn; some of the runs are refused."""
+    for turn in range(count):
+        what, plan = NO_READING_WAYS[turn % len(NO_READING_WAYS)], no_reading_plan(rng)
+        yield what, Run(f'no reading {turn}: {what}', plan.table, *no_reading_inputs(rng, plan, what))
 
 
 def by_hand():

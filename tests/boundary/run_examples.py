@@ -1,4 +1,5 @@
-"""Runs by hand: every answer and every element is written here from the sentence of 01 above it. test_run.py runs them, and asks the model too.
+"""Runs by hand: every answer and every element is written here from the sentence of 01 above it, or of 02 where (02) stands before it. test_run.py
+runs them, and asks the model too.
 
 An input is a number (known), GAP (flag 0 over a number that no limits hold) or a pair (value, flag)."""
 
@@ -45,7 +46,8 @@ def binary(name, op, dtype, limits, inputs, result):
 
 # ------------------------------------------------------------ numbers and gaps
 
-WHOLE_I16, SIGNED, NATURAL, TRUTH = (-32768, 32767), (-9, 9), (1, 9), (0, 1)
+# (02) "The range of i16 becomes −32767..32767, wherever a type's range is asked for."
+WHOLE_I16, SIGNED, NATURAL, TRUTH = (-32767, 32767), (-9, 9), (1, 9), (0, 1)
 NUMBERS = [
     # "IDIV is the floor of a/b and MOD is a − b·floor(a/b)"; "The language's own remainder for MOD of −7 by 2 (here 1)."
     *(binary('IDIV', IDIV, I16, (SIGNED, (1, 9) if b > 0 else (-9, -1)), [a, b], quotient)
@@ -66,9 +68,18 @@ NUMBERS = [
     binary('MUL', MUL, I16, ((-3, 2), (-5, 4)), [-3, -5], 15),
     binary('MUL', MUL, I16, ((-3, 2), (-5, 4)), [-3, 4], -12),
     binary('MUL', MUL, I32, ((-46340, 46340), (-46340, 46340)), [-46340, 46340], -2147395600),
-    # "● i16 [−16384,16383] added to itself: [−32768,32766]."
-    completes('ADD to itself', param(0, I16, -16384, 16383, (2,)) + apply(ADD, 0, 0), [-16384, 16383], [-16384, 16383], [-32768, 32766]),
-    binary('MAX', MAX, I16, (WHOLE_I16, WHOLE_I16), [-32768, -32767], -32767),
+    # (02) "[−16383,16383] gives [−32766,32766] and is accepted."
+    completes('ADD to itself', param(0, I16, -16383, 16383, (2,)) + apply(ADD, 0, 0), [-16383, 16383], [-16383, 16383], [-32766, 32766]),
+    # the ends of i16, as inputs and as results
+    *(binary('ADD', ADD, I16, ((-16384, 16383), (-16383, 16384)), [a, b], total) for a, b, total in ((-16384, -16383, -32767), (16383, 16384, 32767))),
+    *(binary('MUL', MUL, I16, ((-217, 217), (151, 151)), [a, 151], product) for a, product in ((-217, -32767), (217, 32767))),
+    *(binary('IDIV', IDIV, I16, (WHOLE_I16, (-1, -1)), [a, -1], quotient) for a, quotient in ((-32767, 32767), (32767, -32767))),
+    *(binary('MOD', MOD, I16, (WHOLE_I16, (-32767, -1)), [a, -32767], rest) for a, rest in ((1, -32766), (-32767, 0))),
+    *(binary('MAX', MAX, I16, (WHOLE_I16, WHOLE_I16), [-32767, b], b) for b in (-32766, -32767, 32767)),
+    *(binary('CMPLT', CMPLT, I16, (WHOLE_I16, WHOLE_I16), [a, b], less) for a, b, less in ((-32767, 32767, 1), (-32767, -32767, 0), (32767, -32767, 0))),
+    *(binary('CMPNE', CMPNE, I16, (WHOLE_I16, WHOLE_I16), [a, b], other) for a, b, other in ((-32767, 32767, 1), (-32767, -32767, 0))),
+    completes('sums at the ends of i16', param(0, I16, -4681, 4681, (2, 7)) + reduce_node(0, 0, (0, 1)), [-4681] * 7 + [4681] * 7,
+              [-4681] * 7 + [4681] * 7, [-32767, 32767]),
     *(binary('CMPLT', CMPLT, I16, (SIGNED, SIGNED), [a, b], less) for a, b, less in ((-3, 2, 1), (2, -3, 0), (2, 2, 0), (-9, 9, 1))),
     *(binary('CMPNE', CMPNE, I16, (SIGNED, SIGNED), [a, b], other) for a, b, other in ((-3, 3, 1), (3, 3, 0), (0, 0, 0))),
     *(binary('AND', AND, BOOL, (TRUTH, TRUTH), [a, b], both) for a, b, both in ((0, 0, 0), (0, 1, 0), (1, 0, 0), (1, 1, 1))),
@@ -77,6 +88,10 @@ NUMBERS = [
     completes('CAST keeps', param(0, I32, 0, 255, (3,)) + node(CAST, {1: 0, 4: U8}), [0, GAP, 255], [0, GAP, 255], [0, GAP, 255]),
     completes('LOAD keeps', param(0, I32, I32_LOW, I32_HIGH, (3,)) + node(LOAD, {1: 0, 6: 9}), [I32_LOW, I32_HIGH, GAP],
               [I32_LOW, I32_HIGH, GAP], [I32_LOW, I32_HIGH, GAP]),
+    completes('CAST at the ends of i16', param(0, I32, *WHOLE_I16, (3,)) + node(CAST, {1: 0, 4: I16}), [-32767, 32767, GAP], *[[-32767, 32767, GAP]] * 2),
+    # (02) "The buoys use −32768 for "no reading".": those of i16; in i32 it is a number like others
+    completes('−32768 in i32', param(0, I32, -32768, 0, (3,)) + const(I32, -1) + apply(ADD, 0, 1) + const(I32, -32767) + apply(ADD, 3, 1),
+              [-32768, (-32768, 0), -32767], [-32768, GAP, -32767], [-1], [-32769, GAP, -32768], [-32767], [-32768]),
     # "writes all nodes' elements end to end": a plan without a PARAM takes no input
     completes('a CONST', const(I16, -5), [], [-5]),
     completes('two CONSTs and their sum, with room left', const(I16, -5) + const(I16, 7) + apply(ADD, 0, 1), [], [-5], [7], [2], more=(3, 5)),
@@ -110,6 +125,11 @@ GAPS = [
     completes('an output of gaps', param(0, I16, -9, 9, (3,)), [GAP, GAP, GAP], [GAP, GAP, GAP]),
     # "Testing limits under a gap." is a slip
     completes('numbers outside the limits under gaps', param(0, U8, 3, 5, (4,)), [(2, 0), (6, 0), (-BIG, 0), (BIG - 1, 0)], [GAP] * 4),
+    # (02) "The buoys use −32768 for "no reading".": under a gap no range is asked for
+    completes('−32768 of i16 under gaps', param(0, I16, *WHOLE_I16, (4,)) + move(FLIP, 0, (1,)), [(-32768, 0), -32767, 32767, (-32768, 0)],
+              [GAP, -32767, 32767, GAP], [GAP, 32767, -32767, GAP]),
+    completes('−32768 of i16 under every gap', param(0, I16, *WHOLE_I16, (2,)), [(-32768, 0)] * 2, [GAP] * 2),
+    completes('sum with −32768 under a gap', param(0, I16, -9, 9, (3,)) + reduce_node(0, 0, (1,)), [1, (-32768, 0), 3], [1, GAP, 3], [GAP]),
 ]
 SIX = param(0, I16, 0, 5, (2, 3))
 MOVEMENTS = [
@@ -242,6 +262,8 @@ RANKS = [
 # -------------------------------------------------------------------- refusals
 
 PAIR = param(0, I16, -3, 5, (2,))
+THREE = param(0, I16, *WHOLE_I16, (3,))
+WIDE_THREE = param(0, I32, -32768, 0, (3,)) + param(1, I16, -32767, 0, (3,))
 LATER = const(I16, 7) + PAIR + const(I16, 7) + param(1, U8, 3, 9, (2,)) + apply(ADD, 0, 2)
 REFUSALS = [
     # 13 "either input length is not the PARAM total"
@@ -277,6 +299,18 @@ REFUSALS = [
     refused('two flags', 15, 0, PAIR, [(1, 2), (1, 255)]),
     refused('two numbers', 16, 0, PAIR, [6, -4]),
     refused('a number after a gap over garbage', 16, 1, PAIR, [GAP, 6]),
+    # 16 "known number outside limits": no limits of i16 hold −32768, (02) "The range of i16 becomes −32767..32767"
+    refused('−32768 of i16', 16, 2, THREE, [-32767, 32767, -32768]),
+    refused('−32768 at every position', 16, 0, THREE, [-32768, -32768, -32768]),
+    refused('−32768 after −32768 under a gap', 16, 1, THREE, [(-32768, 0), -32768, -32768]),
+    refused('−32768 within narrow limits', 16, 0, PAIR, [-32768, 1]),
+    refused('−32768 before a flag', 16, 0, THREE, [-32768, (1, 2), 1]),
+    refused('−32768 after a flag', 15, 0, THREE, [(1, 2), -32768, 1]),
+    refused('−32768 under a flag', 15, 1, THREE, [1, (-32768, 2), -32768]),
+    refused('−32768 before 32768', 16, 1, THREE, [1, -32768, 32768]),
+    refused('−32768 after 32768', 16, 0, THREE, [32768, -32768, 1]),
+    refused('−32768 of i16 after that of i32', 16, 5, WIDE_THREE, [-32768, -32768, 0, -32767, 0, -32768]),
+    refused('−32768 of i32 whose limits do not hold it', 16, 1, param(0, I32, -32767, 0, (2,)), [-32767, -32768]),
     # "Writing results before 15 and 16 have been tested at every position." is a slip
     refused('the last flag of two PARAMs', 15, 3, LATER, [1, 1, 3, (3, 255)]),
     # "Order: .. 12 ..; then 13, 14; then 15 and 16"
@@ -288,6 +322,7 @@ REFUSALS = [
     refused('1 before 13', 1, 0, PAIR[:16], [1, 1, 1]),
     refused('2 before 13', 2, 1, PAIR + node(21), [1], rooms=(0, 0)),
     refused('11 before 15', 11, 1, PAIR + const(BOOL, 2), [(1, 2), 1]),
+    refused('11 of −32768 before 16', 11, 0, param(0, I16, -32768, 32767, (2,)), [-32768, 1]),
     refused('10 of a divisor that the input would not have', 10, 1, PAIR + apply(IDIV, 0, 0), [1, 1]),
     refused('12 before 13', 12, 0, large(*[(LARGE,)] * 4) + const(BOOL, 1), []),
     refused('no words', 1, 0, [], []),

@@ -8,6 +8,7 @@ import collections
 import faulthandler
 import os
 import sys
+from itertools import combinations_with_replacement
 from random import Random
 
 sys.dont_write_bytecode = True
@@ -321,6 +322,41 @@ def test_pack(tally, library, rng, count):
     tally.same('pack answers met', sorted(met), [0, 1, 2, 3, 14, 25])
 
 
+# ---------------------------------------------------------------- the range of i16
+
+# (02) "The range of i16 becomes −32767..32767, wherever a type's range is asked for.": numbers about its ends, each the product of two.
+LEAST_I16, GREATEST_I16 = -32767, 32767
+I16_FACTORS = ((6, 5461), (7, 4681), (8, 4096), (9, 3641))
+I16_ENDS = sorted({0, *(sign * n * q for n, q in I16_FACTORS for sign in (-1, 1))})
+
+
+def i16_tables():
+    """(low, high, table): bounds of i16 as declared, cast, added, multiplied and summed; and nodes after a PARAM that keep them."""
+    for number in I16_ENDS:
+        yield number, number, cases.const(2, number)
+    for low, high in combinations_with_replacement(I16_ENDS, 2):
+        kept = [cases.const(2, 1), cases.const(2, -1), cases.const(0, 1), *(cases.apply(model.IDIV, 0, k) for k in (1, 2)), cases.apply(model.MAX, 0, 0),
+                cases.apply(model.WHERE, 3, 0, 0), cases.reduce_node(0, 1, (1,)), cases.move(model.FLIP, 0, (1,)), cases.load(0, 1)]
+        yield low, high, sum(kept, cases.param(0, 2, low, high, (2,)))
+        yield low, high, cases.param(0, 3, low, high, ()) + cases.node(model.CAST, {1: 0, 4: 2})
+        halves = (low // 2, high // 2), (low - low // 2, high - high // 2)
+        yield low, high, sum((cases.param(k, 2, *half, ()) for k, half in enumerate(halves)), []) + cases.apply(model.ADD, 0, 1)
+    for n, q in I16_FACTORS:
+        for low, high in ((-q, q), (-q, 0), (0, q), (-q, -q), (q, q)):
+            yield n * low, n * high, cases.param(0, 2, low, high, ()) + cases.const(2, n) + cases.apply(model.MUL, 0, 1)
+            yield n * low, n * high, cases.param(0, 2, low, high, (n,)) + cases.reduce_node(0, 0, (1,))
+
+
+def test_i16(tally, library):
+    """Each table by a check and, packed, by unpack and check in one call: accepted exactly where the bounds are in the range, else 11."""
+    for low, high, table in i16_tables():
+        due = 0 if LEAST_I16 <= low and high <= GREATEST_I16 else 11
+        with tally.case(('i16', low, high, table)):
+            words = 8 * (len(table) // model.NODE_WORDS)
+            numbers = [checked(tally, library, table, words), checked(tally, library, table, words + 3), both(tally, library, cases.pack(table))]
+            tally.same(('i16', low, high, table), numbers, [due] * 3)
+
+
 TESTS = {'lup_unpack': test_unpack, 'lup_check': test_check, 'lup_unpack_check': test_unpack_check, 'lup_pack': test_pack}
 # test_run.py drives lup_run, test_lookup.py lup_lookup, tests/host/test_install.py compares what lup_version answers.
 TESTED = {*TESTS, 'lup_run', 'lup_lookup', 'lup_version'}
@@ -335,6 +371,7 @@ def main():
     tally.same('the calls that the library exports', exported(), TESTED)
     for test in TESTS.values():
         test(tally, library, rng, count)
+    test_i16(tally, library)
     tally.finish(library.made)
 
 

@@ -170,6 +170,26 @@ def test_accepted(compared, rng, count):
             test_run(compared, rng, run, turn)
 
 
+# ------------------------------------------------------------------- no reading
+
+def first_fault(what):
+    """What is due by the first fault in what is done: 16 of a known number, 15 of a flag, 0 where there are gaps alone."""
+    return next(({'known': 16, 'flag': 15}.get(done, done) for done in what if done != 'gap'), 0)
+
+
+def test_no_reading(compared, rng, count):
+    """−32768 in PARAMs of i16 and i32 by the model, whose number has to be what the faults say; the values under gaps do not matter."""
+    for what, run in run_cases.no_reading_runs(rng, count):
+        total = sum(prod(record.extents) for record in model.verdict(run.table)[1])
+        rooms = total + rng.choice((0, 0, 3)), total + rng.choice((0, 0, 2))
+        with compared.tally.case(run.note):
+            got = compared.run(run.note, *run[1:], rooms)
+            compared.tally.same((run.note, 'the first fault'), got[0][0], first_fault(what))
+            values = other_garbage(rng, run)
+            compared.same(lambda: (run.note, 'other numbers under gaps', described(run.table), values, run.flags),
+                          compared.call(run.table, values, run.flags, rooms), *got[:3])
+
+
 # ------------------------------------------------------ refusals of the check
 
 def test_checked(compared, rng, scale):
@@ -260,6 +280,7 @@ def main():
     compared = Compared(tally, Library())
     test_examples(compared)
     test_accepted(compared, rng, count)
+    test_no_reading(compared, rng, 680)
     test_checked(compared, rng, count / 10000)
     test_large(compared)
     test_met(tally, compared.met, count)

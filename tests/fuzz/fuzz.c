@@ -161,7 +161,7 @@ static size_t below(size_t n) { return any() % n; }
 static int one_in(size_t n) { return below(n) == 0; }
 
 static int64_t edge(void) {
-    static const int64_t edges[] = {0, 1, -1, 2, 3, 4, 5, 15, 16, 20, 21, 127, 128, 255, 256, 32767, 32768, -32768, -32769, 1048576, 1048577, 4194304, 2147483647, 2147483648,
+    static const int64_t edges[] = {0, 1, -1, 2, 3, 4, 5, 15, 16, 20, 21, 127, 128, 255, 256, 32767, 32768, -32767, -32768, -32769, 1048576, 1048577, 4194304, 2147483647, 2147483648,
                                     -2147483648, -2147483649, (int64_t)1 << 32, LEAST_WORD, LEAST_WORD - 1, GREATEST_WORD, GREATEST_WORD + 1,
                                     INT64_MAX, INT64_MIN, INT64_MAX - 1, INT64_MIN + 1};
     return one_in(4) ? (int64_t)any() : edges[below(sizeof edges / sizeof *edges)];
@@ -244,6 +244,7 @@ static void param_words(int64_t *w) {
     w[6] = one_in(12) ? 2 : 1;
     w[7] = w[4] < 2 ? one_in(2) : -limit;
     w[8] = w[4] == 0 ? 1 : limit;
+    if (w[4] == I16 && one_in(4)) w[7] = -32767, w[8] = 32767;
     for (size_t k = 0, rank = below(5); k < rank; k++) w[9 + k] = one_in(20) ? 60 : 1 + (int64_t)below(4);
 }
 
@@ -408,16 +409,17 @@ static int breaks(uint32_t rules, unsigned rule) { return rules >> rule & 1; }
 
 static const uint32_t param_rules = BITS(2, 3) | BITS(5, 5) | BITS(7, 8) | BITS(11, 11);
 
-/* A PARAM that breaks these rules; 7 by its slot, its device, low above high, an extent, or a word after its shape. */
+/* A PARAM that breaks these rules; 7 by its slot, its device, low above high, an extent, or a word after its shape; 11 by either limit. */
 static void add_param(uint32_t rules) {
     static const struct { int word; int64_t value; } sevens[] = {{5, 16}, {5, -1}, {6, 0}, {6, 256}, {7, 99999}, {9, -1}, {9, 1048577}, {12, 1}};
     size_t seven = below(sizeof sevens / sizeof *sevens);
+    int low = one_in(2);
     int64_t *w = add_node((int64_t[NODE]){PARAM, [4] = I16, (int64_t)params, 1, -9, 9, 2});
     if (breaks(rules, 2)) w[0] = one_in(2) ? OPERATIONS : -1;
     if (breaks(rules, 3)) w[one_in(2) ? 1 + below(3) : 13 + below(4)] = 1;
     if (breaks(rules, 5)) w[4] = one_in(2) ? 4 : -1;
     if (breaks(rules, 8)) w[9] = w[10] = 1048576;
-    if (breaks(rules, 11)) w[8] = 32768;
+    if (breaks(rules, 11)) w[low ? 7 : 8] = low ? -32768 : 32768;
     if (breaks(rules, 7)) w[sevens[seven].word] = sevens[seven].value;
 }
 

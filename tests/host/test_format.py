@@ -41,7 +41,7 @@ RESULT_TYPES = {
     'bool': lambda word, types: 0,
     'that of source 2': lambda word, types: types[1],
 }
-ENDS = (-32768, -7, -1, 0, 1, 2, 9, 255)
+ENDS = (-32767, -7, -1, 0, 1, 2, 9, 255)
 INTERVALS = [(low, high) for low in ENDS for high in ENDS if low <= high]
 
 

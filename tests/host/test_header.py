@@ -135,7 +135,7 @@ def test_comments(tally, page, text):
     tally.same('no others', said, {})
     for name, least, greatest in ((row[1], row[2], row[3]) for row in page.table('type', 'name', 'least', 'greatest')):
         ends = f'{least}, {greatest}' if name == 'bool' else f'{least}..{greatest}'
-        tally.holds((name, ends), re.search(rf'LUP_TYPE_{name.upper()} = \d,? +/\* {re.escape(ends)} \*/', text))
+        tally.holds((name, ends), re.search(rf'LUP_TYPE_{name.upper()} = \d,? +/\* {re.escape(ends)}(;.*)? \*/', text))
 
 
 TWICE = '''#include "lupetzarin.h"

@@ -67,6 +67,7 @@ REFUSED_TABLES = [
     (9, 2, PAIR + param(1, I16, 0, 9, (2,), 2) + apply(ADD, 0, 1)),
     (10, 1, PAIR + apply(IDIV, 0, 0)), (10, 1, PAIR + apply(MOD, 0, 0)),
     (11, 0, const(U8, 256)), (11, 1, PAIR + node(CAST, {1: 0, 4: U8})), (11, 1, param(0, I16, -20000, 20000, (2,)) + apply(ADD, 0, 0)),
+    (11, 0, const(I16, -32768)), (11, 1, param(0, I16, -16384, 16383, (2,)) + apply(ADD, 0, 0)),
     (12, 0, param(0, BOOL, 0, 1, (LARGE,)) + node(LOAD, {1: 0, 6: 1}) * 3 + const(BOOL, 1)),
 ]
 REFUSED_BYTES = [
@@ -483,6 +484,15 @@ def test_limits(tally, lup, rng):
     message = ('lup: b.field: refused 16 at element 5 (row 1 column 2) of PARAM 1 (node 1 of p.plan, input position 7): '
                'known number outside limits: 6, not -5..5\n')
     tally.same('16 word for word', lup.run('run', 'p.plan', 'a.field', 'b.field', '-o', 'out.field'), (1, '', message))
+    # (02) "The buoys use −32768 for "no reading".": known it is outside all limits of i16, under a gap it is not looked at
+    lup.put('p.plan', pack(param(0, I16, -32767, 32767, (3,))))
+    lup.put('a.field', garbled((3,), [1, -32768, -32768], [1, 0, 1]))
+    message = ('lup: a.field: refused 16 at element 2 (column 2) of PARAM 0 (node 0 of p.plan, input position 2): '
+               'known number outside limits: -32768, not -32767..32767\n')
+    tally.same('−32768 word for word', lup.run('run', 'p.plan', 'a.field', '-o', 'out.field'), (1, '', message))
+    lup.put('a.field', garbled((3,), [1, -32768, -32768], [1, 0, 0]))
+    tally.same('−32768 under gaps', lup.run('run', 'p.plan', 'a.field', '-o', 'out.field')[0::2], (0, ''))
+    tally.same('−32768 under gaps: the field', lup.get('out.field'), field_bytes((3,), [1, None, None], (-32767, 32767)))
 
 
 # ------------------------------------------------------------------ lookups

@@ -282,7 +282,7 @@ LOGIC = {6: [{(2, 'dtype'): 1}, {(1, 'dtype'): 3, (2, 'dtype'): 3}], 8: SHAPES, 
 NEGATIVE = {(2, 'low'): -1, (2, 'high'): -1}
 PAST_RANK = [{11: 1}, {12: 1}]
 DRAFTS = {
-    CONST: ({4: 2, 5: 5}, {5: [{4: 4}, {4: -1}], 11: [{5: BIG - 1}, {5: -32769}]}),
+    CONST: ({4: 2, 5: 5}, {5: [{4: 4}, {4: -1}], 11: [{5: BIG - 1}, {5: -32768}]}),
     PARAM: ({4: 3, 5: 0, 6: 1, 7: -4, 8: 10, 9: 2, 10: 3},
             {5: [{4: 4}], 8: [FOUR_LARGE, {9: LARGE, 10: 2}],
              7: [{5: 1}, {5: -1}, {6: 0}, {6: 256}, {7: 2 ** 40}, {10: 0, 11: 3},
@@ -971,11 +971,55 @@ def hand_lookups():
         yield Case('lookup', (table, *place), 'lookup by hand')
 
 
+# (02) "The buoys use −32768 for "no reading". The range of i16 becomes −32767..32767, wherever a type's
+# range is asked for."
+
+def no_reading_tables():
+    """Bounds of i16 at both ends of its range, and one below by each that computes and can leave it; CONST and
+    PARAM are in type_tables."""
+    for low in (-16384, -16383):
+        yield param(0, 2, low, 16383, ()) + apply(ADD, 0, 0)
+    yield param(0, 2, -256, 1, ()) + const(2, 128) + apply(MUL, 0, 1)
+    yield param(0, 2, -4096, 0, (8,)) + reduce_node(0, 0, (1,))
+    yield param(0, 3, -32768, 0, ()) + node(CAST, {1: 0, 4: 2})
+    halves = param(0, 2, -16384, 16383, ()) + param(1, 2, -16383, 16384, ()) + apply(ADD, 0, 1)
+    factors = param(2, 2, -217, 217, ()) + const(2, 151) + apply(MUL, 3, 4)
+    seventh = param(3, 2, -4681, 4681, (7,)) + reduce_node(6, 0, (1,))
+    wide = param(4, 3, -32767, 32767, ()) + node(CAST, {1: 8, 4: 2})
+    others = const(2, -1) + apply(IDIV, 9, 10) + apply(MAX, 9, 9) + const(0, 1) + apply(WHERE, 13, 9, 9)
+    yield halves + factors + seventh + wide + others
+
+
+def no_reading_runs():
+    """−32768 known and under gaps, in PARAMs of i16 and i32, alone and beside other bad positions."""
+    whole = param(0, 2, -32767, 32767, (3,))
+    for values, flags in (([32767, -32767, -32768], [1, 1, 1]), ([-32768, -32768, -32768], [0, 1, 1]),
+                          ([9, -32768, 9], [2, 1, 1]), ([9, -32768, -32768], [1, 2, 1]),
+                          ([-32768, 9, 40000], [1, 2, 1]), ([40000, -32768, 9], [1, 1, 1])):
+        yield Case('run', (whole, values, flags, 3, 3), 'no reading')
+    yield Case('run', (whole + move(FLIP, 0, (1,)), [-32768, 7, -32768], [0, 1, 0], 6, 6), 'no reading')
+    both = param(0, 3, -32768, 0, (2,)) + param(1, 2, -32767, 0, (2,))
+    sums = const(3, -32767) + const(3, -1) + apply(ADD, 2, 3) + apply(ADD, 0, 3)
+    yield Case('run', (both, [-32768, 0, -32767, -32768], [1, 1, 1, 1], 4, 4), 'no reading')
+    yield Case('run', (both + sums, [-32768, -32768, -32767, -32768], [1, 0, 1, 0], 9, 9), 'no reading')
+    yield Case('run', (param(0, 3, -32767, 0, (2,)), [-32767, -32768], [1, 1], 2, 2), 'no reading')
+
+
+def no_reading_cases():
+    for table in no_reading_tables():
+        yield Case('check', (table, 8 * (len(table) // 17)), 'no reading')
+    yield from no_reading_runs()
+    number = const(2, -32768)
+    yield from (Case('run', (number, [], [], 1, 1), 'no reading'), Case('lookup', (number, 0, 0), 'no reading'))
+    yield from (Case(call, (pack(number),), 'no reading') for call in ('unpack_check', 'listing'))
+
+
 def hand_cases(count, seed):
     rng = Random(f'by hand {seed}')
     table = sum((small_node(op) for op in range(21)), [])
     several = [Case('unpack', (pack(table), len(table)), 'every operation'), *elementwise_runs(),
-               *movement_runs(), *hand_checks(), *rank_runs(), *single_runs(), *axis_runs(), *hand_lookups()]
+               *movement_runs(), *hand_checks(), *rank_runs(), *single_runs(), *axis_runs(), *hand_lookups(),
+               *no_reading_cases()]
     yield from chosen(rng, several, count, lambda case: case.call)
 
 

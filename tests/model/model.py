@@ -31,10 +31,10 @@ MOST_LISTING_BYTES = 12288
 # (02) "whose used words lie in −17179869184..17179869183"
 LEAST_WORD, GREATEST_WORD = -17179869184, 17179869183
 
-# "Types: 0 bool (0..1), 1 u8 (0..255), 2 i16 (−32768..32767),
-#  3 i32 (−2147483648..2147483647)."
+# "Types: 0 bool (0..1), 1 u8 (0..255), .. 3 i32 (−2147483648..2147483647)."
+# (02) "The range of i16 becomes −32767..32767, wherever a type's range is asked for."
 BOOL = 0
-TYPE_LIMITS = {0: (0, 1), 1: (0, 255), 2: (-32768, 32767),
+TYPE_LIMITS = {0: (0, 1), 1: (0, 255), 2: (-32767, 32767),
                3: (-2147483648, 2147483647)}
 
 # "Which words an operation uses is a constant table indexed by its number."

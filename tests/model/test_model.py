@@ -55,10 +55,11 @@ def two(op, first, second, dtype=3):
 
 
 class WorkedExamples(Compared):
-    """Every worked example of 01, the slips too."""
+    """Every worked example of 01, the first as 02 changes it, the slips too."""
 
     def test_bounds(self):
-        self.bounds(param(0, 2, -16384, 16383, ()) + apply(ADD, 0, 0), -32768, 32766)
+        self.refused(param(0, 2, -16384, 16383, ()) + apply(ADD, 0, 0), 11, 1)
+        self.bounds(param(0, 2, -16383, 16383, ()) + apply(ADD, 0, 0), -32766, 32766)
         self.refused(param(0, 2, -20000, 20000, ()) + apply(ADD, 0, 0), 11, 1)
         self.refused(param(0, 1, 0, 255, ()) + const(1, 2) + apply(MUL, 0, 1), 11, 2)
         self.bounds(param(0, 2, -4, 10, (3,)) + reduce_node(0, 0, (1,)), -12, 30)
@@ -241,6 +242,66 @@ class ExamplesBeyond(Compared):
             if want[0] != 14:
                 answer = 65536 * want[0] + want[1]
                 self.same(model.unpack_check(bytes.fromhex(text)), answer, text)
+
+
+class NoReading(Compared):
+    """02: "The buoys use −32768 for "no reading". The range of i16 becomes −32767..32767, wherever a
+    type's range is asked for.\""""
+
+    def test_numbers_and_limits(self):
+        for number, due in ((-32768, 11), (-32767, 0), (32767, 0), (32768, 11)):
+            self.same(model.verdict(const(2, number))[0], due, ('CONST', number))
+            self.same(model.verdict(const(3, number))[0], 0, ('CONST of i32', number))
+        self.refused(const(2, 5) + const(2, -32768), 11, 1)
+        self.refused(param(0, 2, -32768, 32767, ()), 11, 0)
+        self.refused(param(0, 2, -32768, -32768, ()), 11, 0)
+        self.bounds(param(0, 2, -32767, 32767, ()), -32767, 32767)
+        self.refused(param(0, 2, 0, -32768, ()), 7, 0, 'low above high comes first')
+
+    def test_bounds(self):
+        wide = param(0, 3, -32768, 0, ()), param(0, 3, -32767, 0, ())
+        self.refused(wide[0] + node(CAST, {1: 0, 4: 2}), 11, 1)
+        self.bounds(wide[1] + node(CAST, {1: 0, 4: 2}), -32767, 0)
+        self.bounds(wide[0] + node(CAST, {1: 0, 4: 3}), -32768, 0)
+        self.bounds(two(ADD, (-16384, 16383), (-16383, 16384), 2), -32767, 32767)
+        self.refused(two(ADD, (-1, 0), (-32767, 0), 2), 11, 2)
+        self.bounds(two(MUL, (-217, 217), (151, 151), 2), -32767, 32767)
+        self.refused(two(MUL, (-256, 1), (1, 128), 2), 11, 2)
+        self.bounds(param(0, 2, -4681, 4681, (7,)) + reduce_node(0, 0, (1,)), -32767, 32767)
+        self.refused(param(0, 2, -4096, 0, (8,)) + reduce_node(0, 0, (1,)), 11, 1)
+        self.bounds(two(IDIV, (-32767, 32767), (-1, -1), 2), -32767, 32767, 'no IDIV of i16 leaves it')
+        self.bounds(two(MAX, (-32767, 32767), (-32767, -32767), 2), -32767, 32767)
+        self.bounds(two(ADD, (-16384, 0), (-16384, 0)), -32768, 0, 'i32 has it')
+
+    def runs(self, table, pairs, number, place, cells=None):
+        """A run of pairs (value, flag): its answer, and the cells of all nodes where it is accepted."""
+        out, known = [5] * 9, [5] * 9
+        answer = model.run(table, *zip(*pairs), out, known)
+        want = [] if cells is None else cells
+        gaps = want[-len(pairs):].count(GAP)
+        self.same((answer, out, known),
+                  (Answer(number, place, gaps), [0 if v is GAP else v for v in want] + [5] * (9 - len(want)),
+                   [int(v is not GAP) for v in want] + [5] * (9 - len(want))), pairs)
+
+    def test_runs(self):
+        whole = param(0, 2, -32767, 32767, (3,))
+        flipped = whole + move(FLIP, 0, (1,))
+        self.runs(whole, [(1, 1), (-32767, 1), (-32768, 1)], 16, 2)
+        self.runs(whole, [(-32768, 1), (-32768, 1), (9, 2)], 16, 0)
+        self.runs(whole, [(9, 2), (-32768, 1), (9, 1)], 15, 0)
+        self.runs(whole, [(9, 1), (-32768, 2), (-32768, 1)], 15, 1)
+        self.runs(whole, [(-32768, 0), (40000, 1), (-32768, 1)], 16, 1)
+        for under in (-32768, -32767, 0):
+            self.runs(flipped, [(7, 1), (under, 0), (9, 1)], 0, 0, [7, GAP, 9, 9, GAP, 7])
+        self.runs(whole, [(-32768, 0)] * 3, 0, 0, [GAP] * 3)
+        self.runs(whole, [(-32767, 1), (0, 1), (32767, 1)], 0, 0, [-32767, 0, 32767])
+        self.runs(param(0, 2, -9, 9, (3,)), [(1, 1), (-32768, 1), (1, 1)], 16, 1)
+        wide = param(0, 3, -32768, 0, (3,))
+        doubled = [-32768, GAP, 0, -65536, GAP, 0]
+        self.runs(wide + apply(ADD, 0, 0), [(-32768, 1), (-32768, 0), (0, 1)], 0, 0, doubled)
+        self.runs(param(0, 3, -32767, 0, (3,)), [(0, 1), (-32768, 1), (0, 1)], 16, 1)
+        both = param(0, 3, -32768, 0, ()) + param(1, 2, -32767, 0, (2,))
+        self.runs(both, [(-32768, 1), (-32767, 1), (-32768, 1)], 16, 2)
 
 
 def shown(text):

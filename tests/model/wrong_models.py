@@ -19,6 +19,7 @@ RULES = dict(RIGHT.NODE_RULES)
 NAMES = ('CONST PARAM PERMUTE FLIP RESHAPE EXPAND PAD SHRINK CAST ADD MUL MAX IDIV MOD CMPLT CMPNE AND OR WHERE '
          'REDUCE LOAD').split()
 AXES = range(4)
+I16, I32 = 2, 3
 LARGE = 1048576
 FOLLOWED = (*range(PERMUTE, CAST), LOAD)
 
@@ -529,6 +530,29 @@ def limits():
         RIGHT.result_interval(node)[0] < RIGHT.TYPE_LIMITS[RIGHT.result_dtype(node)][0]))
 
 
+def i16_range(low, high):
+    return {'TYPE_LIMITS': {**RIGHT.TYPE_LIMITS, I16: (low, high)}}
+
+
+def i16_range_of(op, low, high):
+    """Rule 11 with another range of i16 for one operation."""
+    def wrong(node):
+        with patched(i16_range(low, high) if node.op == op else {}):
+            return RULES[11](node)
+    return rule(11, wrong)
+
+
+def ranges():
+    """(02) "The range of i16 becomes −32767..32767, wherever a type's range is asked for.": another one in one place. A
+    result of MAX, IDIV or WHERE is never below the sources' range."""
+    for op in (CONST, PARAM, CAST, ADD, MUL, MAX, IDIV, WHERE, REDUCE):
+        for low, high in ((-32768, 32767), (-32766, 32767), (-32767, 32766)):
+            if low != -32768 or op not in (MAX, IDIV, WHERE):
+                yield f'{NAMES[op]} of i16 from {low} to {high}', i16_range_of(op, low, high)
+    for call in ('check', 'unpack_check', 'run', 'lookup'):
+        yield f'i16 from −32768 in {call}', in_call(call, i16_range(-32768, 32767))
+
+
 # --------------------------------------------------------------- the bounds
 
 def bound(op, interval):
@@ -759,6 +783,38 @@ def inputs():
         RIGHT.input_refusal(params, values, [0, *flags[1:]]))}
     yield 'the last position is not scanned', {'input_refusal': lambda params, values, flags: (
         RIGHT.input_refusal(params, values, [*flags[:-1], 0]))}
+
+
+def flags_seen(other, in_the_run=True):
+    """The scan, and the run too, by other flags: those of a function of the PARAM's type, the value and the flag."""
+    def seen_flags(params, values, flags):
+        dtypes_of = [record.dtype for record in params for _ in range(prod(record.extents))]
+        return list(map(other, dtypes_of, values, flags))
+
+    def fields(table, records, values, flags):
+        params = [record for k, record in enumerate(records) if table[17 * k] == PARAM]
+        return RIGHT.all_fields(table, records, values, seen_flags(params, values, flags))
+
+    scan = {'input_refusal': lambda params, values, flags: RIGHT.input_refusal(
+        params, values, seen_flags(params, values, flags))}
+    return {**scan, 'all_fields': fields} if in_the_run else scan
+
+
+def no_readings():
+    """(02) "The buoys use −32768 for "no reading".": it is a number outside the limits, or under a gap no number at all."""
+    for name, dtype in (('i16', I16), ('i32', I32)):
+        yield f'a known −32768 of {name} is a gap', flags_seen(
+            lambda d, value, flag, own=dtype: 0 if (d, value, flag) == (own, -32768, 1) else flag)
+    yield 'a known −32768 of i16 passes rule 16', scanned(outside=lambda record, value: (
+        (record.dtype, value) != (I16, -32768) and not record.low <= value <= record.high))
+    yield 'a known −32768 is outside any limits', scanned(outside=lambda record, value: (
+        value == -32768 or not record.low <= value <= record.high))
+    yield 'the range of i16 is asked under a gap', flags_seen(lambda d, value, flag: 1 if (
+        d == I16 and flag == 0 and not -32767 <= value <= 32767) else flag, False)
+    yield '−32768 of i16 is refused under a gap', flags_seen(lambda d, value, flag: 1 if (
+        (d, value, flag) == (I16, -32768, 0)) else flag, False)
+    yield 'a result of −32768 is a gap', {'element_value': lambda words, *rest: (
+        lambda value: None if value == -32768 else value)(RIGHT.element_value(words, *rest))}
 
 
 def run_by(order=(13, 14, 15), lengths=lambda values, flags, wanted: values != wanted or flags != wanted,
@@ -1189,6 +1245,7 @@ def listings():
                          ('no first line', lambda text: text[text.find(b'\n') + 1:] or text),
                          ('a colon for at', lambda text: text.replace(b' at ', b': '))):
         yield f'listing: {name}', {'listing': lambda data, c=change: c(RIGHT.listing(data))}
+    yield 'listing: i16 from −32768', in_call('listing', i16_range(-32768, 32767))
 
 
 def bytes_wide():
@@ -1200,13 +1257,14 @@ CONTROLS = (
     *((f'fit of {NAMES[op]}', fitting(op, lambda a, *three, f=right: f(*three))) for op, right in FITS.items()),
     ('count of RESHAPE', reshaped(None, None)), ('broadcast', {'broadcast': loose(lambda *_: False)}),
     ('operands', {'element_value': read_at_0((*BINARY, WHERE), [0, 1, 2], lambda *_: False)}),
+    ('range of i16', i16_range_of(CONST, -32767, 32767)), ('flags', flags_seen(lambda d, value, flag: flag)),
     ('rule 12', {'verdict': over(lambda counts: counts)}), ('reduction', reduced()), ('inputs', scanned()),
     ('run', run_by()), ('check', check_by()), ('lookup', lookup_by()), ('number', number_by()), ('node', node_by()),
     ('unpack', unpack_by()), ('written number', groups_by()), ('written node', written_by()), ('pack', pack_by()),
     ('range of pack', range_of(LEAST, GREATEST)), ('rules of pack', pack_rule(0, None)),
 )
-FAMILIES = (movements, shapes, broadcasts, orders, words, types, devices, numbers, rows, limits, bounds, values,
-            reductions, inputs, runs, checks, lookups, packed, packs)
+FAMILIES = (movements, shapes, broadcasts, orders, words, types, devices, numbers, rows, limits, ranges, bounds, values,
+            reductions, inputs, no_readings, runs, checks, lookups, packed, packs)
 ONE_SET_ONLY = (
     ('agreement', listings, 'the program vectors lists nothing'),
     ('vectors', bytes_wide, 'the runs of the tables have less than 200 elements'),

@@ -254,7 +254,7 @@ WRONG = {
         'plan/lib.rt: Nodes', 'code: `derived` (verifier/lib.rt)', 'code: `derive`'),
     2: ('', 'check', '`none`', '`check` `run`', '`check` and `run`', '`size_at`', 'all the calls', '`check'),
     3: ('', 'NONE.md', 'tests/none.py', 'plan/Fact', 'laws/Facts', 'verifier/Nodes: none', 'plan/Words: nodeOf',
-        'plan must-fail i16_low', 'plan must-fail', 'plans must-fail u8_range', 'further words',
+        'plan must-fail no_such', 'plan must-fail', 'plans must-fail u8_range', 'further words',
         'further (noSuchName)', 'model test none', 'Tables of plan', 'proofs of plans', 'proofs of verifier/none',
         'agreement, vectors'),
 }
@@ -264,7 +264,7 @@ OTHER_ROW = 'testInput for a flag', 'plan/Words: nodeOf (`node_at`); plan/lib.rt
 OTHER_WRONG = {
     0: ('noSuchName', '`no_such`', 'plan/Words: nodeOff'),
     1: ('', 'words', 'plan/Words: nodeOff', 'plan/Masks: mask-bit', 'further'),
-    2: ('', 'words', 'plan/Masks: mask-bits', 'plan/Words: nodeOf', 'plan must-fail i16_low', '`check`'),
+    2: ('', 'words', 'plan/Masks: mask-bits', 'plan/Words: nodeOf', 'plan must-fail no_such', '`check`'),
 }
 
 

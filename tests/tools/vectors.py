@@ -6,9 +6,9 @@ usage: vectors.py             write both files
        vectors.py --list      a line for each case: index, call, name, answer
        vectors.py --spoilt PROGRAM    exit 1 unless the program finds each case that is spoilt
 
-Every expected answer here is written by hand from the sentence of 01 that is quoted above it; those of run, lookup
-and pack are in tests/boundary (run_examples.py, lookup_examples.py, pack_examples.py). The model of tests/model is
-only asked afterwards, and the script stops where it differs.
+Every expected answer here is written by hand from the sentence of 01 that is quoted above it, or of 02 where (02)
+stands before it; those of run, lookup and pack are in tests/boundary (run_examples.py, lookup_examples.py,
+pack_examples.py). The model of tests/model is only asked afterwards, and the script stops where it differs.
 """
 import os
 import struct
@@ -149,8 +149,8 @@ UNUSED += [
 # examples marked ● are here too.
 
 BOUNDS = (
-    # "ADD [a+b,A+B]"; "● i16 [−16384,16383] added to itself: [−32768,32766]."
-    (ADD, I16, (-16384, 16383), (-16384, 16383), (-32768, 32766)),
+    # "ADD [a+b,A+B]"; (02) "The range of i16 becomes −32767..32767"
+    (ADD, I16, (-16384, 16383), (-16383, 16384), (-32767, 32767)),
     (ADD, U8, (0, 5), (250, 250), (250, 255)),
     (ADD, I32, (-2147483647, -1), (-1, 2147483647), (-2147483648, 2147483646)),
     # "MUL least and greatest of four products" ("Two corners for MUL" is a slip)
@@ -158,16 +158,19 @@ BOUNDS = (
     (MUL, I16, (-3, -2), (-5, 4), (-12, 15)),
     (MUL, I16, (2, 3), (-5, 4), (-15, 12)),
     (MUL, I16, (-3, 2), (-5, -4), (-10, 15)),
+    (MUL, I16, (-217, 217), (151, 151), (-32767, 32767)),
     (MUL, I32, (-46340, 46340), (-46340, 46340), (-2147395600, 2147395600)),
     # "MAX [max(a,b),max(A,B)]"
     (MAX, I16, (-4, 10), (2, 5), (2, 10)),
     (MAX, I16, (-4, 1), (-9, 5), (-4, 5)),
+    (MAX, I16, (-32767, 32767), (-32767, -32767), (-32767, 32767)),
     # "IDIV least and greatest of four floored corner quotients"; "● IDIV [−7,7] by 2: [−4,3]."
     (IDIV, I16, (-7, 7), (2, 2), (-4, 3)),
     (IDIV, I16, (-7, 7), (-3, -2), (-4, 3)),
     (IDIV, I16, (-7, -5), (2, 4), (-4, -2)),
     (IDIV, I16, (5, 7), (-4, -2), (-4, -2)),
     (IDIV, I16, (1, 7), (2, 9), (0, 3)),
+    (IDIV, I16, (-32767, 32767), (-1, -1), (-32767, 32767)),
     (IDIV, I32, (-2147483648, 0), (1, 1), (-2147483648, 0)),
     (IDIV, I32, (-2147483647, 0), (-1, -1), (0, 2147483647)),
     # "MOD [0,B−1] for b>0, [b+1,0] for B<0"; "● MOD by [−3,−2]: [−2,0]."
@@ -176,6 +179,7 @@ BOUNDS = (
     (MOD, I16, (3, 3), (5, 5), (0, 4)),
     (MOD, I16, (-7, 7), (1, 1), (0, 0)),
     (MOD, I16, (-7, 7), (-1, -1), (0, 0)),
+    (MOD, I16, (-7, 7), (-32767, -1), (-32766, 0)),
     (MOD, I32, (0, 1), (-2147483648, -1), (-2147483647, 0)),
     # "AND [min(a,b),min(A,B)], OR [max(a,b),max(A,B)]"
     (AND, BOOL, (0, 1), (1, 1), (0, 1)),
@@ -214,16 +218,21 @@ def bounds_case(op, dtype, first, second, result):
 THREE_BY_TWO = param(0, I16, -4, 10, (3, 2))
 THREE_BY_TWO_ROW = (I16, 1, -4, 10, 3, 2)
 OTHER_BOUNDS = [
-    # "CONST [v,v]" at both ends of "0 bool (0..1), 1 u8 (0..255), 2 i16 (−32768..32767), 3 i32
-    # (−2147483648..2147483647)"
+    # (02) "[−16383,16383] gives [−32766,32766] and is accepted."
+    accepted('i16 [−16383,16383] added to itself', scalar(0, I16, -16383, 16383) + apply(ADD, 0, 0),
+             (I16, 1, -16383, 16383), (I16, 1, -32766, 32766)),
+    # "CONST [v,v]" at both ends of "0 bool (0..1), 1 u8 (0..255), .. 3 i32 (−2147483648..2147483647)"; (02) "The
+    # range of i16 becomes −32767..32767, wherever a type's range is asked for."
     accepted('CONST at the ends of each type', const(BOOL, 0) + const(BOOL, 1) + const(U8, 0) + const(U8, 255)
-             + const(I16, -32768) + const(I16, 32767) + const(I32, -2147483648) + const(I32, 2147483647),
-             (0, 0, 0, 0), (0, 0, 1, 1), (1, 0, 0, 0), (1, 0, 255, 255), (2, 0, -32768, -32768),
+             + const(I16, -32767) + const(I16, 32767) + const(I32, -2147483648) + const(I32, 2147483647),
+             (0, 0, 0, 0), (0, 0, 1, 1), (1, 0, 0, 0), (1, 0, 255, 255), (2, 0, -32767, -32767),
              (2, 0, 32767, 32767), (3, 0, -2147483648, -2147483648), (3, 0, 2147483647, 2147483647)),
+    accepted('−32768 of i32', const(I32, -32768) + scalar(0, I32, -32768, -32768),
+             (I32, 0, -32768, -32768), (I32, 1, -32768, -32768)),
     # "PARAM [low,high]"
     accepted('PARAM with the whole of each type', scalar(0, BOOL, 0, 1) + scalar(1, U8, 0, 255)
-             + scalar(2, I16, -32768, 32767) + scalar(3, I32, -2147483648, 2147483647),
-             (0, 1, 0, 1), (1, 1, 0, 255), (2, 1, -32768, 32767), (3, 1, -2147483648, 2147483647)),
+             + scalar(2, I16, -32767, 32767) + scalar(3, I32, -2147483648, 2147483647),
+             (0, 1, 0, 1), (1, 1, 0, 255), (2, 1, -32767, 32767), (3, 1, -2147483648, 2147483647)),
     accepted('PARAM with low equal to high', scalar(0, I16, -3, -3), (I16, 1, -3, -3)),
     # "movement (2–7) and LOAD, the source's": PAD too, whose new cells are gaps
     accepted('PAD of numbers above 0', param(0, I16, 3, 9, (2,)) + move(PAD, 0, (4,), (1,)), (I16, 1, 3, 9, 2),
@@ -232,14 +241,21 @@ OTHER_BOUNDS = [
     accepted('WHERE joins both sides', const(BOOL, 1) + scalar(0, I16, -3, 4) + scalar(1, I16, 2, 9)
              + apply(WHERE, 0, 1, 2),
              (BOOL, 0, 1, 1), (I16, 1, -3, 4), (I16, 1, 2, 9), (I16, 1, -3, 9)),
+    accepted('WHERE joins the ends of i16', const(BOOL, 1) + const(I16, 32767) + const(I16, -32767)
+             + apply(WHERE, 0, 1, 2),
+             (BOOL, 0, 1, 1), (I16, 0, 32767, 32767), (I16, 0, -32767, -32767), (I16, 0, -32767, 32767)),
     # "CAST the source's."
     accepted('CAST to a narrower type', scalar(0, I32, 0, 255) + cast(0, U8), (I32, 1, 0, 255),
              (U8, 1, 0, 255)),
+    accepted('CAST to the whole of i16', scalar(0, I32, -32767, 32767) + cast(0, I16), (I32, 1, -32767, 32767),
+             (I16, 1, -32767, 32767)),
     accepted('CAST to bool', scalar(0, I32, 0, 1) + cast(0, BOOL), (I32, 1, 0, 1), (BOOL, 1, 0, 1)),
     accepted('CAST of bool', scalar(0, BOOL, 0, 1) + cast(0, I16), (BOOL, 1, 0, 1), (I16, 1, 0, 1)),
     # "● Sum of 3 of [−4,10]: [−12,30]."
     accepted('sum of 3', param(0, I16, -4, 10, (3,)) + reduce_node(0, 0, (1,)), (I16, 1, -4, 10, 3),
              (I16, 1, -12, 30, 1)),
+    accepted('sum at the ends of i16', param(0, I16, -4681, 4681, (7,)) + reduce_node(0, 0, (1,)),
+             (I16, 1, -4681, 4681, 7), (I16, 1, -32767, 32767, 1)),
     # "n is the product of flagged extents, 1 if none."
     accepted('sum over both axes', THREE_BY_TWO + reduce_node(0, 0, (1, 1)), THREE_BY_TWO_ROW,
              (I16, 1, -24, 60, 1, 1)),
@@ -572,26 +588,30 @@ DIVISORS = [
     # 10 "divisor bounds contain 0"
     *(refused(f'{OPERATIONS[op][0]} by {ends}', 10, 2,
               scalar(0, I16, 1, 7) + scalar(1, I16, *ends) + apply(op, 0, 1))
-      for op in (IDIV, MOD) for ends in ((0, 0), (0, 1), (-1, 0), (-1, 1), (-32768, 32767))),
+      for op in (IDIV, MOD) for ends in ((0, 0), (0, 1), (-1, 0), (-1, 1), (-32767, 32767))),
 ]
 LEAVES = [
-    # 11 "bounds leave the type"; "A CONST number or PARAM limit outside its type is 11."
+    # 11 "bounds leave the type"; "A CONST number or PARAM limit outside its type is 11."; (02) "The range of i16
+    # becomes −32767..32767, wherever a type's range is asked for."
     *(refused(f'CONST {value} of type {dtype}', 11, 0, const(dtype, value))
-      for dtype, value in ((BOOL, 2), (BOOL, -1), (U8, 256), (U8, -1), (I16, 32768), (I16, -32769),
+      for dtype, value in ((BOOL, 2), (BOOL, -1), (U8, 256), (U8, -1), (I16, 32768), (I16, -32768),
                            (I32, 2147483648), (I32, -2147483649), (I32, BIG - 1), (I32, -BIG),
                            (U8, 2 ** 32))),
     *(refused(f'PARAM {low} to {high} of type {dtype}', 11, 0, scalar(0, dtype, low, high))
       for dtype, low, high in ((BOOL, 0, 2), (BOOL, -1, 1), (U8, 0, 256), (U8, -1, 255), (I16, 0, 32768),
-                               (I16, -32769, 0), (I32, 0, 2147483648), (I32, -2147483649, 0),
+                               (I16, -32768, 0), (I16, -32768, 32767), (I16, -32768, -32768),
+                               (I32, 0, 2147483648), (I32, -2147483649, 0),
                                (I32, -BIG, BIG - 1))),
+    # (02) "The marked example of [−16384,16383] added to itself is now refused 11"
+    refused('i16 [−16384,16383] added to itself', 11, 1, scalar(0, I16, -16384, 16383) + apply(ADD, 0, 0)),
     # "● [−20000,20000] to itself: refused 11."
     refused('i16 [−20000,20000] added to itself', 11, 1, scalar(0, I16, -20000, 20000) + apply(ADD, 0, 0)),
     refused('ADD one above', 11, 2, scalar(0, U8, 0, 6) + const(U8, 250) + apply(ADD, 0, 1)),
     refused('ADD of i32 one above', 11, 2, scalar(0, I32, 0, 2147483647) + const(I32, 1) + apply(ADD, 0, 1)),
-    refused('ADD one below', 11, 2, scalar(0, I16, -2, 0) + const(I16, -32767) + apply(ADD, 0, 1)),
+    refused('ADD one below', 11, 2, scalar(0, I16, -1, 0) + const(I16, -32767) + apply(ADD, 0, 1)),
     # "● u8 [0,255] times 2: refused 11."
     refused('u8 [0,255] times 2', 11, 2, scalar(0, U8, 0, 255) + const(U8, 2) + apply(MUL, 0, 1)),
-    refused('MUL below', 11, 2, scalar(0, I16, -200, 1) + scalar(1, I16, 1, 200) + apply(MUL, 0, 1)),
+    refused('MUL one below', 11, 2, scalar(0, I16, -256, 1) + scalar(1, I16, 1, 128) + apply(MUL, 0, 1)),
     refused('MUL of i32 far out', 11, 1, scalar(0, I32, -2147483648, 2147483647) + apply(MUL, 0, 0)),
     # "● i32 [−2147483648,0] by −1: refused 11."
     refused('i32 [−2147483648,0] by −1', 11, 2,
@@ -599,9 +619,9 @@ LEAVES = [
     refused('CAST of 256 to u8', 11, 1, scalar(0, I16, 0, 256) + cast(0, U8)),
     refused('CAST of −1 to u8', 11, 1, scalar(0, I16, -1, 255) + cast(0, U8)),
     refused('CAST of 2 to bool', 11, 1, scalar(0, U8, 0, 2) + cast(0, BOOL)),
-    refused('CAST of i32 to i16', 11, 1, scalar(0, I32, -32769, 0) + cast(0, I16)),
+    refused('CAST of i32 to i16', 11, 1, scalar(0, I32, -32768, 0) + cast(0, I16)),
     refused('sum one above', 11, 1, param(0, U8, 0, 64, (4,)) + reduce_node(0, 0, (1,))),
-    refused('sum below', 11, 1, param(0, I16, -16385, 0, (2,)) + reduce_node(0, 0, (1,))),
+    refused('sum one below', 11, 1, param(0, I16, -16384, 0, (2,)) + reduce_node(0, 0, (1,))),
     refused('sum of 1048576 far out', 11, 1, param(0, I32, -2147483648, 2147483647, (LARGE,))
             + reduce_node(0, 0, (1,))),
 ]
@@ -763,7 +783,8 @@ UNPACKED = [
             [7, 1, 0, 0, 0, 0, 0, 0, 0, 2, 3, 4, 5, 6, 7, 8, 9]),
     *(unpacks(f'{OPERATIONS[op][0]}', f'01 {op:02X} 02 03', 1, [op, 1, -2] + [0] * 14)
       for op in (ADD, MUL, MAX, IDIV, MOD, CMPLT, CMPNE, AND, OR)),
-    # "unpacking also answers the node count"; the rules of a check are not asked
+    # "unpacking also answers the node count"; the rules of a check are not asked, nor is the range of a type
+    unpacks('−32768 of i16', '01 00 04 FF FF 03', 1, const(I16, -32768)),
     unpacks('three nodes', '03 00 04 0A 14 00 02 09 00 02', 3, FIVE + load(0, 1) + apply(ADD, 0, 1)),
     unpacks('256 nodes', '80 02' + '00 04 0A' * 256, 256, FIVE * 256),
     # 14 "a buffer written to is too short": 17 words a node of the count
@@ -851,6 +872,9 @@ ONE_CALL = [
     # "the answer is the node count or, refused, 65536 times the number plus the place"
     in_one_call('one CONST', bytes.fromhex('01 00 04 0A'), 1),
     in_one_call('256 CONSTs', bytes.fromhex('80 02' + '00 04 0A' * 256), 256),
+    # (02) "The range of i16 becomes −32767..32767": −32768, −32767, 32767 and 32768 as words
+    *(in_one_call(f'{text} of i16', bytes.fromhex('01 00 04 ' + text), answer)
+      for text, answer in (('FF FF 03', code(11, 0)), ('FD FF 03', 1), ('FE FF 03', 1), ('80 80 04', code(11, 0)))),
     *(in_one_call(f'in one call: {case.name}', case.source, code(*case.answer[:2]))
       for case in BYTES_REFUSED),
     # "256 nodes take at most 11778": each word −2^34, so node 0 has a negative source

@@ -32,6 +32,7 @@ pub mod Table30
 pub mod Table31
 pub mod Table32
 pub mod Table33
+pub mod Table34
 pub mod Packs01
 pub mod Packs02
 pub mod Packs03

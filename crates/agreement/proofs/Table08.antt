@@ -27,7 +27,7 @@ table08 =
     -- rule 7 op 20
     ∷ toCheck (nodes ((2 ∷ 0 ∷ 0 ∷ 0 ∷ 6 ∷ 0 ∷ 2 ∷ 2 ∷ 2 ∷ 4 ∷ 6 ∷ []) ∷ (40 ∷ []) ∷ (198 ∷ []) ∷ [])) 64 gives leaves (answer 7 1 0) (freshFrom 0 64)
     -- rules 2 and 11 op 0
-    ∷ toCheck (nodes ((42 ∷ 0 ∷ 0 ∷ 0 ∷ 4 ∷ 65537 ∷ []) ∷ (0 ∷ 10 ∷ []) ∷ [])) 64 gives leaves (answer 2 0 0) (freshFrom 0 64)
+    ∷ toCheck (nodes ((42 ∷ 0 ∷ 0 ∷ 0 ∷ 4 ∷ 65535 ∷ []) ∷ (0 ∷ 10 ∷ []) ∷ [])) 64 gives leaves (answer 2 0 0) (freshFrom 0 64)
     -- rules 2 and 5 op 0
     ∷ toCheck (nodes ((1 ∷ 0 ∷ 0 ∷ 0 ∷ 8 ∷ 10 ∷ []) ∷ [])) 64 gives leaves (answer 2 0 0) (freshFrom 0 64)
     -- rules 2 and 7 op 1

@@ -28,8 +28,8 @@ table11 =
     ∷ toCheck (nodes ((2 ∷ 0 ∷ 0 ∷ 0 ∷ 6 ∷ 0 ∷ 2 ∷ 2 ∷ 2 ∷ 4 ∷ 6 ∷ []) ∷ (40 ∷ 1 ∷ []) ∷ (198 ∷ []) ∷ [])) 64 gives leaves (answer 4 1 0) (freshFrom 0 64)
     -- edge op 0 {5: 1}
     ∷ toCheck (nodes ((0 ∷ 0 ∷ 0 ∷ 0 ∷ 4 ∷ 2 ∷ []) ∷ [])) 40 gives leaves (answer 0 0 0) (words (4 ∷ 0 ∷ 2 ∷ 2 ∷ 0 ∷ 0 ∷ 0 ∷ 0 ∷ []) ++ freshFrom 8 32)
-    -- edge op 2 {9: -32769, 12: 254}
-    ∷ toCheck (nodes ((2 ∷ 0 ∷ 0 ∷ 0 ∷ 6 ∷ 0 ∷ 2 ∷ 2 ∷ 2 ∷ 4 ∷ 6 ∷ []) ∷ (4 ∷ 0 ∷ 0 ∷ 0 ∷ 0 ∷ 0 ∷ 0 ∷ 0 ∷ 0 ∷ 65537 ∷ 0 ∷ 0 ∷ 508 ∷ []) ∷ [])) 40 gives leaves (answer 7 1 0) (freshFrom 0 40)
+    -- edge op 2 {9: -32768, 12: 254}
+    ∷ toCheck (nodes ((2 ∷ 0 ∷ 0 ∷ 0 ∷ 6 ∷ 0 ∷ 2 ∷ 2 ∷ 2 ∷ 4 ∷ 6 ∷ []) ∷ (4 ∷ 0 ∷ 0 ∷ 0 ∷ 0 ∷ 0 ∷ 0 ∷ 0 ∷ 0 ∷ 65535 ∷ 0 ∷ 0 ∷ 508 ∷ []) ∷ [])) 40 gives leaves (answer 7 1 0) (freshFrom 0 40)
     -- edge op 6 {16: 1048576}
     ∷ toCheck (nodes ((2 ∷ 0 ∷ 0 ∷ 0 ∷ 6 ∷ 0 ∷ 2 ∷ 2 ∷ 2 ∷ 4 ∷ 6 ∷ []) ∷ (12 ∷ 0 ∷ 0 ∷ 0 ∷ 0 ∷ 0 ∷ 0 ∷ 0 ∷ 0 ∷ 6 ∷ 10 ∷ 0 ∷ 0 ∷ 2 ∷ 4 ∷ 0 ∷ 2097152 ∷ []) ∷ [])) 40 gives leaves (answer 7 1 0) (freshFrom 0 40)
     -- edge op 5 {9: 254}
@@ -80,8 +80,8 @@ table11 =
     ∷ toCheck (nodes ((2 ∷ 0 ∷ 0 ∷ 0 ∷ 6 ∷ 0 ∷ 2 ∷ 2 ∷ 2 ∷ 4 ∷ 6 ∷ []) ∷ (16 ∷ 0 ∷ 0 ∷ 0 ∷ 4294967297 ∷ []) ∷ [])) 40 gives leaves (answer 5 1 0) (freshFrom 0 40)
     -- edge op 4 {9: -1}
     ∷ toCheck (nodes ((2 ∷ 0 ∷ 0 ∷ 0 ∷ 6 ∷ 0 ∷ 2 ∷ 2 ∷ 2 ∷ 4 ∷ 6 ∷ []) ∷ (8 ∷ 0 ∷ 0 ∷ 0 ∷ 0 ∷ 0 ∷ 0 ∷ 0 ∷ 0 ∷ 1 ∷ []) ∷ [])) 40 gives leaves (answer 7 1 0) (freshFrom 0 40)
-    -- edge op 19 {12: 16, 11: -32769}
-    ∷ toCheck (nodes ((2 ∷ 0 ∷ 0 ∷ 0 ∷ 6 ∷ 0 ∷ 2 ∷ 2 ∷ 2 ∷ 4 ∷ 6 ∷ []) ∷ (38 ∷ 0 ∷ 0 ∷ 0 ∷ 0 ∷ 0 ∷ 0 ∷ 0 ∷ 0 ∷ 2 ∷ 0 ∷ 65537 ∷ 32 ∷ []) ∷ [])) 40 gives leaves (answer 7 1 0) (freshFrom 0 40)
+    -- edge op 19 {12: 16, 11: -32768}
+    ∷ toCheck (nodes ((2 ∷ 0 ∷ 0 ∷ 0 ∷ 6 ∷ 0 ∷ 2 ∷ 2 ∷ 2 ∷ 4 ∷ 6 ∷ []) ∷ (38 ∷ 0 ∷ 0 ∷ 0 ∷ 0 ∷ 0 ∷ 0 ∷ 0 ∷ 0 ∷ 2 ∷ 0 ∷ 65535 ∷ 32 ∷ []) ∷ [])) 40 gives leaves (answer 7 1 0) (freshFrom 0 40)
     -- edge op 7 {12: -2147483647, 10: -2147483649}
     ∷ toCheck (nodes ((2 ∷ 0 ∷ 0 ∷ 0 ∷ 6 ∷ 0 ∷ 2 ∷ 2 ∷ 2 ∷ 4 ∷ 6 ∷ []) ∷ (14 ∷ 0 ∷ 0 ∷ 0 ∷ 0 ∷ 0 ∷ 0 ∷ 0 ∷ 0 ∷ 2 ∷ 4294967297 ∷ 0 ∷ 4294967293 ∷ 2 ∷ 2 ∷ []) ∷ [])) 40 gives leaves (answer 7 1 0) (freshFrom 0 40)
     -- edge op 1 {11: 255}

@@ -102,6 +102,10 @@ table33 =
     ∷ toLookup (nodes ((2 ∷ 0 ∷ 0 ∷ 0 ∷ 6 ∷ 0 ∷ 2 ∷ 0 ∷ 2 ∷ 4 ∷ 6 ∷ []) ∷ (6 ∷ 0 ∷ 0 ∷ 0 ∷ 0 ∷ 0 ∷ 0 ∷ 0 ∷ 0 ∷ 2 ∷ []) ∷ (16 ∷ 2 ∷ 0 ∷ 0 ∷ 6 ∷ []) ∷ [])) 3 0 gives finds (answer 17 0 0) 0 0 0
     -- lookup by hand
     ∷ toLookup (nodes ((2 ∷ 0 ∷ 0 ∷ 0 ∷ 6 ∷ 0 ∷ 2 ∷ 0 ∷ 2 ∷ 4 ∷ 6 ∷ []) ∷ (6 ∷ 0 ∷ 0 ∷ 0 ∷ 0 ∷ 0 ∷ 0 ∷ 0 ∷ 0 ∷ 2 ∷ []) ∷ (16 ∷ 2 ∷ 0 ∷ 0 ∷ 6 ∷ []) ∷ [])) 3 6 gives finds (answer 17 0 0) 0 0 0
+    -- no reading
+    ∷ toCheck (nodes ((2 ∷ 0 ∷ 0 ∷ 0 ∷ 4 ∷ 0 ∷ 2 ∷ 32767 ∷ 32766 ∷ []) ∷ (18 ∷ []) ∷ [])) 16 gives leaves (answer 11 1 0) (freshFrom 0 16)
+    -- no reading
+    ∷ toCheck (nodes ((2 ∷ 0 ∷ 0 ∷ 0 ∷ 4 ∷ 0 ∷ 2 ∷ 32765 ∷ 32766 ∷ []) ∷ (18 ∷ []) ∷ [])) 16 gives leaves (answer 0 0 0) (words (4 ∷ 2 ∷ 32765 ∷ 32766 ∷ 0 ∷ 0 ∷ 0 ∷ 0 ∷ 4 ∷ 2 ∷ 65531 ∷ 65532 ∷ 0 ∷ 0 ∷ 0 ∷ 0 ∷ []))
     ∷ []
 
 pub table33-agrees : Agree table33
