@@ -1,6 +1,6 @@
--- 02 §2: "The range of i16 becomes −32767..32767, wherever a type's range is asked for." It is asked for in two places. Rule 11 asks it of both ends of a node's
--- bounds, so of a CONST's number, of a PARAM's limits, of CAST and of every result (Rules: Rule11, both ways); demand 3 asks it of every known result (Demand3:
--- Safe), which is said in numbers here, with what becomes of a −32768 in the input.
+-- 02 §2: "The range of i16 becomes −32767..32767, wherever a type's range is asked for." Two places ask for it. Rule 11 asks it of both ends of a node's bounds, so
+-- of a CONST's number, a PARAM's limits, CAST and every result; Rules says that in numbers, both ways (Rule11). Demand 3 asks it of every known result (Demand3:
+-- Safe); that is said in numbers here.
 use Prim.Native.Nat.{ℕ, _<_, _≤_}
 use mathlib.Core.Path.{_≡_}
 use mathlib.Core.List.{List}
@@ -17,12 +17,13 @@ use Rattle.guarantees.specs.Rules.{Exactly, From, InType}
 use Rattle.guarantees.specs.Runs.{Belongs, Good, RightLengths, Room}
 
 pub record RangesSay : Type 0 where
+  -- the range that both ask for
   pub range : (dtype : ℕ) (z : ℤ) → dtype ≤ 3 → Exactly (From (rangeOf dtype .low) (rangeOf dtype .high) z) (InType dtype z)
-  -- demand 3: "no known result leaves its type"
+  -- "no known result leaves its type"
   pub results : (t : List ℤ) (ds : List Derived) (x : Lent) → Proper t ds x → (n : ℕ) (e : ElementNumber) (z : ℤ) → n < length ds → resultAt t ds x n e ≡ known z
       → InType (getD ds n noSource .dtype) z
-  -- "The buoys use −32768 for “no reading”.": where an i16 PARAM has it with flag 1, at the first bad position, 16 is due. Under a gap it is good (Runs: Good) and
-  -- has no effect (Demand3: SameEnd).
+  -- "The buoys use −32768 for “no reading”.": known at an i16 PARAM it is 16, where no position before it is bad. Under a gap it is not bad (Runs: Good) and has no
+  -- effect (Demand3: SameEnd).
   pub no-reading : (t : List ℤ) (ds : List Derived) (x : Lent) → verdict t ≡ accepted ds → RightLengths t ds x → Room t ds x
       → (p n e : ℕ) → Belongs t ds x p n e → word t n 4 ≡ pos 2 → ((q : ℕ) → q < p → Good t ds x q)
       → getD (x .flags) p 0 ≡ 1 → getD (x .values) p (pos 0) ≡ negsuc 32767 → ran t x ≡ refused (record { number = 16; place = p })
