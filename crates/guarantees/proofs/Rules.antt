@@ -168,7 +168,7 @@ type-in (suc (suc (suc (suc d)))) z h w = absurd (omega arith)
 pub type-range : (d : ℕ) (z : ℤ) → d ≤ 3 → Exactly (From (rangeOf d .low) (rangeOf d .high) z) (InType d z)
 type-range d z h = (in-range d z, type-in d z h)
 
-pub ranges : (d : ℕ) (b : Interval) → d ≤ 3 → Exactly (contains (rangeOf d) b ≡ true) (Rule11 d (b .low) (b .high))
+ranges : (d : ℕ) (b : Interval) → d ≤ 3 → Exactly (contains (rangeOf d) b ≡ true) (Rule11 d (b .low) (b .high))
 ranges d b h =
     let w = ends (rangeOf d) b in
     (λ e. (in-range d (b .low) (w .0 e .0), in-range d (b .high) (w .0 e .1)), λ r. w .1 (type-in d (b .low) h (r .0), type-in d (b .high) h (r .1)))
