@@ -160,10 +160,10 @@ static int pack_agrees(void) {
 
 /* Whether both refuse the first table alike where a word of any node is another. */
 static int pack_refusals_agree(void) {
-    static const int64_t words[] = {-1, 1, 21, -17179869185, 17179869184, INT64_MIN, INT64_MAX};
+    static const int64_t words[] = {-1, 1, 21, 24, -17179869185, 17179869184, INT64_MIN, INT64_MAX};
     for (unsigned k = 0; k < NODES * WORDS; k++) {
         int64_t kept = tables[0][k];
-        tables[0][k] = words[k % 7];
+        tables[0][k] = words[k % (sizeof words / sizeof *words)];
         lup_answer a = lup_pack(tables[0], NODES * WORDS, lup_bytes, MOST_BYTES);
         plain_answer b = plain_pack(tables[0], NODES * WORDS, plain_bytes, MOST_BYTES);
         tables[0][k] = kept;

@@ -5,8 +5,13 @@
 #define WORDS 17
 #define LIMIT 1048576
 
-static const uint32_t used[21] = {48,  8176, 7682, 7682, 7682, 7682, 130562, 130562, 18, 6,    6,
-                                  6,   6,    6,    6,    6,    6,    6,      14,     7714, 66};
+/* The last operation of a first edition file, and of a second edition file, which starts with 0 and SECOND. */
+#define LAST_OLD 20
+#define LAST_NEW 23
+#define SECOND 2
+
+static const uint32_t used[LAST_NEW + 1] = {48, 8176, 7682, 7682, 7682, 7682, 130562, 130562, 18, 6, 6, 6,
+                                            6,  6,    6,    6,    6,    6,    14,     7714,   66, 6, 2, 46};
 
 static plain_answer refuse(uint64_t number, uint64_t place) { return (plain_answer){number, place, 0}; }
 
@@ -35,9 +40,14 @@ static inline unsigned read_number(const uint8_t *s, size_t n, size_t *at, uint6
 
 plain_answer plain_unpack(const uint8_t *s, size_t n, int64_t *table, size_t room) {
     size_t at = 0, first;
-    uint64_t v, count;
+    uint64_t v, count, last = LAST_OLD, greatest = 0;
+    if (n && s[0] == 0) {
+        if (n == 1 || s[1] != SECOND) return refuse(23, 0);
+        at = 2, last = LAST_NEW;
+    }
+    first = at;
     unsigned e = read_number(s, n, &at, &count);
-    if (e) return refuse(e, 0);
+    if (e) return refuse(e, first);
     if (count < 1 || count > NODES) return refuse(23, 0);
     if (room < count * WORDS) return refuse(14, 0);
     int64_t local[NODES * WORDS];
@@ -46,7 +56,8 @@ plain_answer plain_unpack(const uint8_t *s, size_t n, int64_t *table, size_t roo
         int64_t *row = local + i * WORDS;
         first = at;
         if ((e = read_number(s, n, &at, &v))) return refuse(e, first);
-        if (v > 20) return refuse(24, first);
+        if (v > last) return refuse(24, first);
+        if (v > greatest) greatest = v;
         row[0] = (int64_t)v;
         for (uint32_t m = used[v]; m; m &= m - 1) {
             first = at;
@@ -55,6 +66,7 @@ plain_answer plain_unpack(const uint8_t *s, size_t n, int64_t *table, size_t roo
         }
     }
     if (at < n) return refuse(22, at);
+    if (last == LAST_NEW && greatest <= LAST_OLD) return refuse(26, 0);
     memcpy(table, local, count * WORDS * sizeof *table);
     return (plain_answer){0, 0, count};
 }
@@ -67,14 +79,22 @@ static inline size_t write_number(uint8_t *s, size_t at, uint64_t v) {
     return at;
 }
 
+static int has_new(const int64_t *t, size_t count) {
+    for (size_t i = 0; i < count; i++)
+        if (t[i * WORDS] > LAST_OLD && t[i * WORDS] <= LAST_NEW) return 1;
+    return 0;
+}
+
 plain_answer plain_pack(const int64_t *t, size_t words, uint8_t *bytes, size_t room) {
     size_t count = words / WORDS;
     if (words % WORDS || count < 1 || count > NODES) return refuse(1, 0);
-    uint8_t local[2 + NODES * 46];
-    size_t at = write_number(local, 0, count);
+    uint8_t local[4 + NODES * 46];
+    size_t at = 0;
+    if (has_new(t, count)) local[at++] = 0, local[at++] = SECOND;
+    at = write_number(local, at, count);
     for (size_t i = 0; i < count; i++) {
         const int64_t *w = t + i * WORDS;
-        if (w[0] < 0 || w[0] > 20) return refuse(2, i);
+        if (w[0] < 0 || w[0] > LAST_NEW) return refuse(2, i);
         uint32_t m = used[w[0]];
         int64_t junk = 0;
         for (unsigned k = 1; k < WORDS; k++) junk |= (m >> k & 1) ? 0 : w[k];
@@ -92,7 +112,7 @@ plain_answer plain_pack(const int64_t *t, size_t words, uint8_t *bytes, size_t r
     return (plain_answer){0, 0, at};
 }
 
-/* ---- the check ---- */
+/* ---- the check, of plans of the first edition's operations ---- */
 
 typedef struct {
     int64_t low, high;
@@ -256,7 +276,7 @@ plain_answer plain_check(const int64_t *t, size_t words, int64_t *derived, size_
     uint64_t params = 0, total = 0;
     for (size_t i = 0; i < count; i++) {
         const int64_t *w = t + i * WORDS;
-        if (w[0] < 0 || w[0] > 20) return refuse(2, i);
+        if (w[0] < 0 || w[0] > LAST_OLD) return refuse(2, i);
         unsigned op = (unsigned)w[0];
         uint32_t m = used[op];
         int64_t junk = 0;

@@ -252,6 +252,52 @@ void plain_where(cells to, cells condition, cells a, cells b, size_t n) {
     where_values(to.values, condition.values, condition.flags, a.values, b.values, n);
 }
 
+/* ---- FILL and KNOWN ---- */
+
+/* A gap of the first source has value 0 already. */
+static void or_else_values(to_values v, from_values x, from_flags f, from_values y, size_t n) {
+    for (size_t i = 0; i < n; i++) v[i] = x[i] | (y[i] & ~mask(f[i]));
+}
+
+static void either_flags(to_flags f, from_flags g, from_flags h, size_t n) {
+    for (size_t i = 0; i < n; i++) f[i] = g[i] | h[i];
+}
+
+void plain_or_else(cells to, cells a, cells b, size_t n) {
+    or_else_values(to.values, a.values, a.flags, b.values, n);
+    either_flags(to.flags, a.flags, b.flags, n);
+}
+
+void plain_or_else_row(cells to, cells a, cells b, size_t rows, size_t columns) {
+    for (size_t r = 0; r < rows; r++) plain_or_else(cells_at(to, r * columns), cells_at(a, r * columns), b, columns);
+}
+
+static void or_else_cell(to_values v, from_values x, from_flags f, int64_t y, size_t n) {
+    for (size_t i = 0; i < n; i++) v[i] = x[i] | (y & ~mask(f[i]));
+}
+
+static void either_cell(to_flags f, from_flags g, uint8_t h, size_t n) {
+    for (size_t i = 0; i < n; i++) f[i] = g[i] | h;
+}
+
+/* One cell a row; one row is one cell for all. */
+void plain_or_else_column(cells to, cells a, cells b, size_t rows, size_t columns) {
+    for (size_t r = 0; r < rows; r++) {
+        cells row = cells_at(to, r * columns), over = cells_at(a, r * columns);
+        or_else_cell(row.values, over.values, over.flags, b.values[r], columns);
+        either_cell(row.flags, over.flags, b.flags[r], columns);
+    }
+}
+
+static void flag_values(to_values v, from_flags f, size_t n) {
+    for (size_t i = 0; i < n; i++) v[i] = f[i];
+}
+
+void plain_known(cells to, cells a, size_t n) {
+    flag_values(to.values, a.flags, n);
+    memset(to.flags, 1, n);
+}
+
 /* ---- REDUCE ---- */
 
 static int64_t sum_of(from_values x, size_t n) {

@@ -42,6 +42,12 @@ void plain_halve(cells to, cells a, size_t n);
 void plain_mod4(cells to, cells a, size_t n);
 void plain_where(cells to, cells condition, cells a, cells b, size_t n);
 
+/* FILL: a where it is known, else b; the second source as for ADD. KNOWN: 1 or 0, never a gap. */
+void plain_or_else(cells to, cells a, cells b, size_t n);
+void plain_or_else_row(cells to, cells a, cells b, size_t rows, size_t columns);
+void plain_or_else_column(cells to, cells a, cells b, size_t rows, size_t columns);
+void plain_known(cells to, cells a, size_t n);
+
 /* REDUCE over the last axis (a number a row) and over the first (a number a column). */
 void plain_sum_rows(cells to, cells a, size_t rows, size_t columns);
 void plain_sum_columns(cells to, cells a, size_t rows, size_t columns);

@@ -98,6 +98,18 @@ size_t put_reduced(plan *p, size_t source, int64_t how, int64_t rows, int64_t co
     return put(p, 19, (shape){rows ? 1 : s.rows, columns ? 1 : s.columns});
 }
 
+size_t put_known(plan *p, size_t source) {
+    int64_t *w = next_words(p);
+    w[1] = (int64_t)source;
+    return put(p, 22, p->shapes[source]);
+}
+
+size_t put_stacked(plan *p, size_t a, size_t b) {
+    int64_t *w = next_words(p);
+    w[1] = (int64_t)a, w[2] = (int64_t)b, w[5] = 2;
+    return put(p, 23, (shape){2 * p->shapes[a].rows, p->shapes[a].columns});
+}
+
 void params_alone(const plan *p, plan *alone) {
     memset(alone, 0, sizeof *alone);
     for (size_t i = 0; i < p->slots; i++) {

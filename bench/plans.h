@@ -21,7 +21,7 @@ typedef struct {
 } plan;
 
 enum { BOOL, U8, I16, I32 };
-enum { ADD = 9, IDIV = 12, MOD = 13, CMPLT = 14, CMPNE = 15 };
+enum { ADD = 9, IDIV = 12, MOD = 13, CMPLT = 14, CMPNE = 15, FILL = 21 };
 enum { SUM, LARGEST };
 
 /* Each adds one node and gives its number. */
@@ -36,6 +36,9 @@ size_t put_loaded(plan *p, size_t source);
 size_t put_binary(plan *p, int64_t op, size_t a, size_t b);
 size_t put_where(plan *p, size_t condition, size_t a, size_t b);
 size_t put_reduced(plan *p, size_t source, int64_t how, int64_t rows, int64_t columns);
+size_t put_known(plan *p, size_t source);
+/* STACK of two; its new axis and the rows of its sources count as one axis. */
+size_t put_stacked(plan *p, size_t a, size_t b);
 
 size_t cells_of(const plan *p, size_t node);
 

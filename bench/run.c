@@ -47,7 +47,7 @@ static cells part(const plan *p, size_t node) { return (cells){all.values + p->s
 
 /* ---- single operations: the plan, and its last node in plain C ---- */
 
-static const shape square = {SIDE, SIDE}, inner = {INNER, INNER}, row_shape = {1, SIDE}, column_shape = {SIDE, 1}, cell_shape = {1, 1};
+static const shape square = {SIDE, SIDE}, half = {SIDE / 2, SIDE}, inner = {INNER, INNER}, row_shape = {1, SIDE}, column_shape = {SIDE, 1}, cell_shape = {1, 1};
 static const shape offset = {OFFSET, OFFSET};
 
 static size_t put_numbers(plan *p, shape s) { return put_param(p, I32, -1000000, 1000000, s); }
@@ -92,18 +92,41 @@ static void expand_column_plain(const plan *p) { plain_expand_column(part(p, 1),
 static void expand_cell_build(plan *p) { put_expanded(p, put_numbers(p, cell_shape), square); }
 static void expand_cell_plain(const plan *p) { plain_expand_column(part(p, 1), part(p, 0), 1, SIDE * SIDE); }
 
-/* ADD of a square and of what is broadcast over it. */
-static void add_spread(plan *p, shape s) {
+/* ADD or FILL of a square and of what is broadcast over it. */
+static void spread(plan *p, int64_t op, shape s) {
     size_t a = put_numbers(p, square), b = put_numbers(p, s);
-    put_binary(p, ADD, a, b);
+    put_binary(p, op, a, b);
 }
 
-static void add_row_build(plan *p) { add_spread(p, row_shape); }
+static void add_row_build(plan *p) { spread(p, ADD, row_shape); }
 static void add_row_plain(const plan *p) { plain_add_row(part(p, 2), part(p, 0), part(p, 1), SIDE, SIDE); }
-static void add_column_build(plan *p) { add_spread(p, column_shape); }
+static void add_column_build(plan *p) { spread(p, ADD, column_shape); }
 static void add_column_plain(const plan *p) { plain_add_column(part(p, 2), part(p, 0), part(p, 1), SIDE, SIDE); }
-static void add_cell_build(plan *p) { add_spread(p, cell_shape); }
+static void add_cell_build(plan *p) { spread(p, ADD, cell_shape); }
 static void add_cell_plain(const plan *p) { plain_add_column(part(p, 2), part(p, 0), part(p, 1), 1, SIDE * SIDE); }
+
+static void fill_build(plan *p) { spread(p, FILL, square); }
+static void fill_plain(const plan *p) { plain_or_else(part(p, 2), part(p, 0), part(p, 1), cells_of(p, 2)); }
+static void fill_row_build(plan *p) { spread(p, FILL, row_shape); }
+static void fill_row_plain(const plan *p) { plain_or_else_row(part(p, 2), part(p, 0), part(p, 1), SIDE, SIDE); }
+static void fill_column_build(plan *p) { spread(p, FILL, column_shape); }
+static void fill_column_plain(const plan *p) { plain_or_else_column(part(p, 2), part(p, 0), part(p, 1), SIDE, SIDE); }
+static void fill_cell_build(plan *p) { spread(p, FILL, cell_shape); }
+static void fill_cell_plain(const plan *p) { plain_or_else_column(part(p, 2), part(p, 0), part(p, 1), 1, SIDE * SIDE); }
+
+static void known_build(plan *p) { put_known(p, put_numbers(p, square)); }
+static void known_plain(const plan *p) { plain_known(part(p, 1), part(p, 0), cells_of(p, 1)); }
+
+static void stack_build(plan *p) {
+    size_t a = put_numbers(p, half), b = put_numbers(p, half);
+    put_stacked(p, a, b);
+}
+static void stack_plain(const plan *p) {
+    size_t n = cells_of(p, 0);
+    cells to = part(p, 2);
+    plain_copy(to, part(p, 0), n);
+    plain_copy((cells){to.values + n, to.flags + n}, part(p, 1), n);
+}
 
 static void sum_rows_build(plan *p) { put_reduced(p, put_numbers(p, square), SUM, 0, 1); }
 static void sum_rows_plain(const plan *p) { plain_sum_rows(part(p, 1), part(p, 0), SIDE, SIDE); }
@@ -223,6 +246,12 @@ static const bench_row rows[] = {
     {"copy (LOAD)", 1.5, SEVERAL, copy_build, copy_plain},
     {"ADD of one shape", 1.5, SEVERAL, add_build, add_plain},
     {"WHERE of one shape", 1.5, SEVERAL, where_build, where_plain},
+    {"FILL of one shape", 1.5, SEVERAL, fill_build, fill_plain},
+    {"FILL by a row", 1.5, SEVERAL, fill_row_build, fill_row_plain},
+    {"FILL by a column", 1.5, SEVERAL, fill_column_build, fill_column_plain},
+    {"FILL by one cell", 1.5, SEVERAL, fill_cell_build, fill_cell_plain},
+    {"KNOWN", 1.5, SEVERAL, known_build, known_plain},
+    {"STACK of two of 512 x 1024", 1.5, SEVERAL, stack_build, stack_plain},
     {"transpose", 2.0, SEVERAL, turn_build, turn_plain},
     {"flip of rows", 2.0, SEVERAL, flip_rows_build, flip_rows_plain},
     {"flip of columns", 2.0, SEVERAL, flip_columns_build, flip_columns_plain},

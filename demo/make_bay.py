@@ -1,6 +1,6 @@
 #!/usr/bin/env python3
-"""Writes the example data of the demo beside this file: the joining plan bay.lup, the strips of eleven machines, as one is dead, the field of zones, and
-the zeros that version one took for a dead machine.
+"""Writes the example data of the demo beside this file: the joining plan bay.lup, the strips of eleven machines, as one is dead, the field of zones,
+the zeros that version one took for a dead machine, and the field of an hour before, which has a few gaps of its own.
 
 usage: make_bay.py [DIRECTORY]
 
@@ -33,8 +33,17 @@ def strip(k):
     return [wind(row, STEP * k + column) + (7 * k + 3 * row + column) % 5 - 2 for row in range(ROWS) for column in range(WIDTH)]
 
 
-def field_bytes(extents, values):
-    return struct.pack(f'<8sQ{len(extents)}Q{len(values)}q{len(values)}B', b'LUPFIELD', len(extents), *extents, *values, *[1] * len(values))
+def hour_before(row, column):
+    """The wind at five at a cell of the field, whose columns are those of the bay from 1 on: lighter than at six; None, a gap, in a corner."""
+    if row >= 12 and 24 <= column < 28:
+        return None
+    return wind(row, column + 1) - 11 - (row + 2 * column) % 4
+
+
+def field_bytes(extents, cells):
+    """A field file; None is a gap."""
+    values, flags = [cell or 0 for cell in cells], [int(cell is not None) for cell in cells]
+    return struct.pack(f'<8sQ{len(extents)}Q{len(cells)}q{len(cells)}B', b'LUPFIELD', len(extents), *extents, *values, *flags)
 
 
 def plan_lines():
@@ -70,6 +79,7 @@ def main(arguments):
     files = {f'strip-{k:02}.field': field_bytes((ROWS, WIDTH), strip(k)) for k in range(STRIPS) if k != DEAD}
     files['zones.field'] = field_bytes((ROWS, COLUMNS), [zone_of(column) for _ in range(ROWS) for column in range(COLUMNS)])
     files['zeros.field'] = field_bytes((ROWS, WIDTH), [0] * (ROWS * WIDTH))
+    files['five.field'] = field_bytes((ROWS, COLUMNS - 2), [hour_before(row, column) for row in range(ROWS) for column in range(COLUMNS - 2)])
     files['bay.lup'] = ('\n'.join(plan_lines()) + '\n').encode()
     for name, data in files.items():
         with open(os.path.join(target, name), 'wb') as file:

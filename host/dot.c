@@ -29,7 +29,7 @@ static void write_node(const plan *p, size_t node) {
 
 /* Sources are numbered where there are several, since their order counts. */
 static void write_sources(const plan *p, size_t node) {
-    size_t sources = source_count(word_of(p, node, LUP_WORD_OPERATION));
+    size_t sources = source_count(p, node);
     for (size_t k = 0; k < sources; k++) {
         printf("    n%" PRId64 " -> n%zu", word_of(p, node, LUP_WORD_SOURCE + k), node);
         if (sources > 1) printf(" [label=\"%zu\"]", k + 1);

@@ -66,8 +66,10 @@ static const command COMMANDS[] = {
      "Packs a table into a plan file. TABLE is a text: a line a node, its 17 words as whole numbers with blanks between; '#' begins a comment,\n"
      "and empty lines are passed over. A line with more or fewer words, or with a word that is no whole number of 64 bits, is named, with status 2.\n"
      "What the library refuses is told with status 1: 1 for no node or over 256 (257 are read and no more), then, the nodes in turn, 2 for an\n"
-     "operation not 0..20, 3 for an unused word that is not 0 and 25 for a used word not in -17179869184..17179869183. Nothing else is asked of the\n"
+     "operation not 0..23, 3 for an unused word that is not 0 and 25 for a used word not in -17179869184..17179869183. Nothing else is asked of the\n"
      "plan: lup check does that.\n"
+     "A plan with one of the operations 21 (FILL), 22 (KNOWN) and 23 (STACK) is written as a file of the second edition, which programs older than\n"
+     "5.1 refuse (23); any other plan is written as a file of the first. Every command reads both.\n"
      "-o PLAN   the file to write\n",
      pack_command},
     {"unpack",

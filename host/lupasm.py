@@ -14,10 +14,14 @@ offsets and flags are written a word an axis, as 3x4, and - where there are no a
     a    = add x y                  mul max idiv mod cmplt cmpne and or
     a    = where c x y
     a    = sum wind 0x1             greatest wind 0x1      flag 1 gathers
+    a    = fill x y                 x where it is known, else y
+    a    = known wind               1 where it is known, 0 where it is a gap
+    a    = stack x y                stack x y z      two or three of one shape on a new leading axis
     a    = node 6 1=0 9=5 13=1      an operation and its words, for what no other line can say
 
 All rows but the shapes of param and reshape have a word for each axis of the source. Nothing else is checked
-of a plan: `lup check` does. --back unpacks by the library: what LUPETZARIN_LIBRARY names, else that of the
+of a plan: `lup check` does. A plan with fill, known or stack is written as a file of the second edition, any
+other as one of the first. --back unpacks by the library: what LUPETZARIN_LIBRARY names, else that of the
 checkout or that installed with this program, else what the loader finds under the name liblupetzarin.so.5.
 """
 import argparse
@@ -37,15 +41,18 @@ LIBRARIES = 'build/liblupetzarin.so', 'lib/liblupetzarin.so.5'
 TYPES = ('bool', 'u8', 'i16', 'i32')
 NODE_WORDS, MOST_NODES = 17, 256
 SOURCE, TYPE, NUMBER, DEVICE, LOW, HIGH, ROW_A, ROW_B = 1, 4, 5, 6, 7, 8, 9, 13
-PARAM, REDUCE = 1, 19
+PARAM, REDUCE, FILL, STACK = 1, 19, 21, 23
+# a plan with an operation from FILL on is a file of the second edition: these numbers stand before its node count
+SECOND_EDITION = 0, 2
 # the bytes of a text that are read, and of a packed plan: bytes past these change no answer of the library
 MOST_TEXT, MOST_BYTES = 1 << 24, 12288
 # "| op | words used |": those that a packed plan carries, in rising order
 A, B = tuple(range(9, 13)), tuple(range(13, 17))
 USED = ((4, 5), (4, 5, 6, 7, 8, *A), *[(1, *A)] * 4, *[(1, *A, *B)] * 2, (1, 4), *[(1, 2)] * 9, (1, 2, 3),
-        (1, 5, *A), (1, 6))
+        (1, 5, *A), (1, 6), (1, 2), (1,), (1, 2, 3, 5))
 
-# what follows the operation's name, in order; a `shape` has axes of its own, other rows have those of the source
+# what follows the operation's name, in order; a `shape` has axes of its own, other rows have those of the source;
+# `others` may be a third source or nothing
 FORMS = {
     'const': (0, 'type number'),
     'param': (1, 'type limits shape device'),
@@ -61,14 +68,18 @@ FORMS = {
     'sum': (19, 'first flags'),
     'greatest': (19, 'first flags'),
     'load': (20, 'first device'),
+    'fill': (21, 'first second'),
+    'known': (22, 'first'),
+    'stack': (23, 'first second others'),
 }
 # the library's words for what it refuses of packed bytes
 RULES = {
     20: 'bytes end before or inside a number',
     21: 'number not in its shortest form of at most 5 bytes',
     22: 'bytes left over',
-    23: 'node count not 1..256',
-    24: 'operation not 0..20',
+    23: 'node count not 1..256, or a first byte 0 without a 2 after it',
+    24: 'operation not 0..20, in a second edition file not 0..23',
+    26: 'second edition file with no operation 21..23',
 }
 
 
@@ -166,6 +177,8 @@ class Line:
             return [(SOURCE, source)]
         if part in ('second', 'third'):
             return [(SOURCE + ('first', 'second', 'third').index(part), self.source())]
+        if part == 'others':
+            return [(NUMBER, 3), *self.part('third')] if self.tokens else [(NUMBER, 2)]
         if part == 'type':
             return [(TYPE, self.dtype())]
         if part == 'number':
@@ -267,7 +280,8 @@ def assemble(text):
     table = table_of(text)
     if not table:
         raise TextError('there is no node')
-    numbers = [len(table) // NODE_WORDS]
+    operations = table[::NODE_WORDS]
+    numbers = [*(SECOND_EDITION if max(operations) >= FILL else ()), len(operations)]
     for first in range(0, len(table), NODE_WORDS):
         words = table[first:first + NODE_WORDS]
         numbers += [words[0], *(2 * words[w] if words[w] >= 0 else -2 * words[w] - 1 for w in USED[words[0]])]
@@ -307,12 +321,18 @@ def joined(words, separator='x'):
     return separator.join(map(str, words)) or '-'
 
 
+def sources_of(words):
+    """The words of a node that name its sources; a STACK has a third one with number 3 alone."""
+    most = 2 if words[0] == STACK and words[NUMBER] != 3 else 3
+    return [words[w] for w in USED[words[0]] if w <= most]
+
+
 def rank_of(words, ranks):
-    """How many axes a node has, as far as its rows and its sources tell."""
-    sources = [ranks[words[w]] for w in USED[words[0]] if w <= 3 and 0 <= words[w] < len(ranks)]
+    """How many axes a node has, as far as its rows and its sources tell; a STACK has one more than its sources."""
     if ROW_A in USED[words[0]] and words[0] not in (2, 3, REDUCE):
         return next((k for k, word in enumerate(words[9:13]) if not word), 4)
-    return max(sources, default=0)
+    sources = [ranks[source] for source in sources_of(words) if 0 <= source < len(ranks)]
+    return max(sources, default=0) + (words[0] == STACK)
 
 
 def readable(name, words, ranks):
@@ -323,8 +343,9 @@ def readable(name, words, ranks):
     texts = {'first': f'n{words[1]}', 'second': f'n{words[2]}', 'third': f'n{words[3]}', 'number': str(words[NUMBER]),
              'type': TYPES[words[TYPE]] if 0 <= words[TYPE] < 4 else '?', 'limits': f'{words[LOW]}..{words[HIGH]}',
              'shape': row, 'extents': row, 'flags': row, 'axes': joined(words[9:9 + rank], ','),
+             'others': f'n{words[3]}' if words[NUMBER] == 3 else '',
              'offsets': f'at {joined(words[13:13 + source])}', 'device': f'device {words[DEVICE]}'}
-    return ' '.join([name, *(texts[part] for part in FORMS[name][1].split())])
+    return ' '.join(filter(None, [name, *(texts[part] for part in FORMS[name][1].split())]))
 
 
 def back(data):

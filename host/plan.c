@@ -14,11 +14,12 @@
 #define NAMED(items) (sizeof(items) / sizeof((items)[0]))
 
 static const char *const OPERATIONS[] = {"CONST", "PARAM", "PERMUTE", "FLIP", "RESHAPE", "EXPAND", "PAD", "SHRINK", "CAST", "ADD", "MUL",
-                                         "MAX", "IDIV", "MOD", "CMPLT", "CMPNE", "AND", "OR", "WHERE", "REDUCE", "LOAD"};
+                                         "MAX", "IDIV", "MOD", "CMPLT", "CMPNE", "AND", "OR", "WHERE", "REDUCE", "LOAD", "FILL",
+                                         "KNOWN", "STACK"};
 static const char *const DTYPES[] = {"bool", "u8", "i16", "i32"};
 static const char *const RULES[] = {
     [1] = "length no multiple of 17, or not 1..256 nodes",
-    [2] = "operation not 0..20",
+    [2] = "operation not 0..23",
     [3] = "unused word not zero",
     [4] = "source negative or not earlier",
     [5] = "type not 0..3",
@@ -37,9 +38,10 @@ static const char *const RULES[] = {
     [20] = "bytes end before or inside a number",
     [21] = "number not in its shortest form of at most 5 bytes",
     [22] = "bytes left over",
-    [23] = "node count not 1..256",
-    [24] = "operation not 0..20",
+    [23] = "node count not 1..256, or a first byte 0 without a 2 after it",
+    [24] = "operation not 0..20, in a second edition file not 0..23",
     [25] = "a used word not in -17179869184..17179869183",
+    [26] = "second edition file with no operation 21..23",
 };
 /* What rule 7 asks of an operation's row and number. */
 static const char *const ROWS[] = {
@@ -52,6 +54,11 @@ static const char *const ROWS[] = {
     [LUP_OP_SHRINK] = ": no shape, or an offset not 0..1048576 or past the rank",
     [LUP_OP_REDUCE] = ": number neither 0 nor 1, or not a flag 0 or 1 for each axis of the source",
     [LUP_OP_LOAD] = ": device not 1..255",
+    [LUP_OP_STACK] = ": number neither 2 nor 3, or word 3 not 0 with number 2",
+};
+/* What rule 8 asks of an operation's sources, where its words do not say all of it. */
+static const char *const SHAPES[] = {
+    [LUP_OP_STACK] = ": sources not of one shape, of a rank over 3, or of over 1048576 elements together",
 };
 
 static const char *named(const char *const *names, size_t count, uint64_t number) {
@@ -91,9 +98,11 @@ int refuse_table(const char *name, const int64_t *table, uint64_t number, uint64
 }
 
 int refuse(const plan *p, uint64_t number, uint64_t place) {
-    int in_row = number == LUP_REFUSED_ROW_OR_NUMBER && place < LUP_MOST_NODES;
-    const char *row = in_row ? named(ROWS, NAMED(ROWS), (uint64_t)word_of(p, (size_t)place, LUP_WORD_OPERATION)) : NULL;
-    return refuse_table(p->name, p->table, number, place, row != NULL ? row : "");
+    uint64_t operation = place < LUP_MOST_NODES ? (uint64_t)word_of(p, (size_t)place, LUP_WORD_OPERATION) : 0;
+    const char *more = NULL;
+    if (number == LUP_REFUSED_ROW_OR_NUMBER) more = named(ROWS, NAMED(ROWS), operation);
+    if (number == LUP_REFUSED_SHAPE) more = named(SHAPES, NAMED(SHAPES), operation);
+    return refuse_table(p->name, p->table, number, place, more != NULL ? more : "");
 }
 
 /* The bytes of a plan file, with a 0 after them. */
@@ -162,10 +171,12 @@ node_facts facts_of(const plan *p, size_t node) {
 
 int64_t word_of(const plan *p, size_t node, size_t word) { return p->table[node * LUP_NODE_WORDS + word]; }
 
-size_t source_count(int64_t operation) {
+size_t source_count(const plan *p, size_t node) {
+    int64_t operation = word_of(p, node, LUP_WORD_OPERATION);
     if (operation == LUP_OP_CONST || operation == LUP_OP_PARAM) return 0;
     if (operation == LUP_OP_WHERE) return 3;
-    return operation > LUP_OP_CAST && operation < LUP_OP_WHERE ? 2 : 1;
+    if (operation == LUP_OP_STACK) return word_of(p, node, LUP_WORD_NUMBER) == 3 ? 3 : 2;
+    return (operation > LUP_OP_CAST && operation < LUP_OP_WHERE) || operation == LUP_OP_FILL ? 2 : 1;
 }
 
 size_t total_count(const plan *p) {

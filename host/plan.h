@@ -43,8 +43,8 @@ node_facts facts_of(const plan *p, size_t node);
 /* A word of a node's 17. */
 int64_t word_of(const plan *p, size_t node, size_t word);
 
-/* The sources of a node: how many words from word 1 on are. */
-size_t source_count(int64_t operation);
+/* The sources of a node of a plan that was checked: how many words from word 1 on are. */
+size_t source_count(const plan *p, size_t node);
 
 /* The elements of all nodes. */
 size_t total_count(const plan *p);

@@ -19,7 +19,7 @@ extern "C" {
 
 /* The version of this header; CHANGELOG.md says what a version promises. LUP_VERSION is one number, to compare; LUP_VERSION_TEXT has points between. */
 #define LUP_VERSION_MAJOR 5
-#define LUP_VERSION_MINOR 0
+#define LUP_VERSION_MINOR 1
 #define LUP_VERSION_PATCH 0
 #define LUP_VERSION (LUP_VERSION_MAJOR * 1000000 + LUP_VERSION_MINOR * 1000 + LUP_VERSION_PATCH)
 #define LUP_VERSION_JOINED(major, minor, patch) #major "." #minor "." #patch
@@ -44,7 +44,7 @@ enum lup_limit {
 #define LUP_LEAST_PACKED_WORD (-INT64_C(17179869184))
 #define LUP_MOST_PACKED_WORD INT64_C(17179869183)
 
-/* Word 0 of a node. */
+/* Word 0 of a node. A plan with one of 21 to 23 is packed as a file of the second edition, any other as one of the first. */
 enum lup_operation {
     LUP_OP_CONST = 0,    /* one number */
     LUP_OP_PARAM = 1,    /* input */
@@ -66,7 +66,10 @@ enum lup_operation {
     LUP_OP_OR = 17,      /* one of them, or both */
     LUP_OP_WHERE = 18,   /* one of two, by a condition */
     LUP_OP_REDUCE = 19,  /* axes gathered into one number */
-    LUP_OP_LOAD = 20     /* another device */
+    LUP_OP_LOAD = 20,    /* another device */
+    LUP_OP_FILL = 21,    /* x where it is known, else y */
+    LUP_OP_KNOWN = 22,   /* 1 where x is known, 0 where it is a gap */
+    LUP_OP_STACK = 23    /* two or three sources of one shape, on a new leading axis */
 };
 
 /* Type of a node: which numbers it may have. */
@@ -80,9 +83,9 @@ enum lup_type {
 /* Words of a node. One that its operation does not use is 0. */
 enum lup_word {
     LUP_WORD_OPERATION = 0,
-    LUP_WORD_SOURCE = 1, /* the first of three: numbers of earlier nodes */
+    LUP_WORD_SOURCE = 1, /* the first of three: numbers of earlier nodes; the third of a STACK of two is 0 and no source */
     LUP_WORD_TYPE = 4,   /* CONST, PARAM, CAST */
-    LUP_WORD_NUMBER = 5, /* CONST: its number; PARAM: its slot; REDUCE: its kind */
+    LUP_WORD_NUMBER = 5, /* CONST: its number; PARAM: its slot; REDUCE: its kind; STACK: how many sources, 2 or 3 */
     LUP_WORD_DEVICE = 6, /* PARAM, LOAD */
     LUP_WORD_LOW = 7,    /* PARAM: the least number of its input */
     LUP_WORD_HIGH = 8,   /* PARAM: the greatest */
@@ -106,7 +109,7 @@ enum lup_derived {
 enum lup_refusal {
     LUP_ACCEPTED = 0,
     LUP_REFUSED_LENGTH = 1,            /* length no multiple of 17, or not 1..256 nodes */
-    LUP_REFUSED_OPERATION = 2,         /* operation not 0..20 (node) */
+    LUP_REFUSED_OPERATION = 2,         /* operation not 0..23 (node) */
     LUP_REFUSED_UNUSED_WORD = 3,       /* unused word not zero (node) */
     LUP_REFUSED_SOURCE = 4,            /* source negative or not earlier (node) */
     LUP_REFUSED_TYPE = 5,              /* type not 0..3 (node) */
@@ -125,9 +128,10 @@ enum lup_refusal {
     LUP_REFUSED_PACKED_END = 20,       /* bytes end before or inside a number (byte) */
     LUP_REFUSED_PACKED_NUMBER = 21,    /* number not in its shortest form of at most 5 bytes (byte) */
     LUP_REFUSED_PACKED_REST = 22,      /* bytes left over (byte) */
-    LUP_REFUSED_PACKED_COUNT = 23,     /* node count not 1..256 */
-    LUP_REFUSED_PACKED_OPERATION = 24, /* operation not 0..20 (byte) */
-    LUP_REFUSED_WORD_RANGE = 25        /* a used word not in -17179869184..17179869183 (node) */
+    LUP_REFUSED_PACKED_COUNT = 23,     /* node count not 1..256, or a first byte 0 without a 2 after it */
+    LUP_REFUSED_PACKED_OPERATION = 24, /* operation not 0..20, in a second edition file not 0..23 (byte) */
+    LUP_REFUSED_WORD_RANGE = 25,       /* a used word not in -17179869184..17179869183 (node) */
+    LUP_REFUSED_PACKED_EDITION = 26    /* second edition file with no operation 21..23 */
 };
 
 /* What a lookup found. */
@@ -147,27 +151,30 @@ typedef struct {
 /* The version of the library that is linked, as LUP_VERSION; compare it with that macro of the header that was compiled. Stack: 1 KiB is enough. */
 uint64_t lup_version(void);
 
-/* Unpacks a packed plan into table, 17 words a node; words past them stay as they were. count: the nodes, 1..256. Refusals, in order: 20, 21
- * and 23 of the node count; 14, table has fewer than 17 words a node; 20, 21 and 24 in byte order; 22.
- * Stack: a frame of 35,056 bytes; memcpy, memset and, on a first call, their lazy binding took 3,136 more with glibc on x86-64. 48 KiB is enough. */
+/* Unpacks a packed plan into table, 17 words a node; words past them stay as they were. count: the nodes, 1..256. A file of the second edition begins
+ * with the bytes 00 02, which the node count follows, and has operations 0..23, one of 21..23 at least; one of the first edition begins with the node
+ * count and has operations 0..20. Refusals, in order: 23, a first byte 0 without a 2 after it (place: 0); 20, 21 (place: the first byte of the count,
+ * 0 or 2) and 23 (place: 0) of the node count; 14, table has fewer than 17 words a node; 20, 21 and 24 in byte order; 22; 26 (place: 0).
+ * Stack: 35,232 bytes measured on plans of 256 nodes (painted stack, x86-64), some 3,200 more on a first call with lazy binding; 48 KiB is enough. */
 lup_answer lup_unpack(const uint8_t *bytes, size_t nbytes, int64_t *table, size_t nwords);
 
-/* Packs a table into bytes, the shortest form of each number; bytes past them stay as they were. count: the bytes, 4..11778. lup_unpack of them gives
- * the table back, and lup_pack of what lup_unpack gave gives the same bytes. Tables that lup_check refuses are packed too: rules 4 to 12 are not asked.
+/* Packs a table into bytes, the shortest form of each number; bytes past them stay as they were. count: the bytes, 4..11778. They are of the second
+ * edition where an operation is one of 21..23, else of the first. lup_unpack of them gives the table back, and lup_pack of what lup_unpack gave gives
+ * the same bytes: a plan has one file. Tables that lup_check refuses are packed too: rules 4 to 12 are not asked.
  * Refusals, in order: 1, the length; 2, 3 and 25, the first node that breaks one of these rules (place: that node) and the first that it breaks; 14,
  * bytes is shorter than what is to be written, so room for LUP_MOST_PACKED_BYTES is always enough.
- * Stack: 12,200 bytes measured on plans of 256 nodes (painted stack, x86-64), 3,200 more on a first call with lazy binding; 24 KiB is enough. */
+ * Stack: 12,152 bytes measured in the same way, some 3,200 more on a first call with lazy binding; 24 KiB is enough. */
 lup_answer lup_pack(const int64_t *table, size_t nwords, uint8_t *bytes, size_t nbytes);
 
 /* Checks a plan and writes what is derived of its nodes, eight words each: type, device, low, high, four extents with zeros past the rank; words
  * past them stay as they were. count: 0. Refusals, in order: 1, the length; 2 to 11, the first node that breaks a rule (place: that node) and
  * its first rule; 12, too many elements together; 14, derived has fewer than 8 words a node.
- * Stack: 36,672 bytes measured on plans of 256 nodes (painted stack, x86-64); 48 KiB is enough. */
+ * Stack: 36,888 bytes measured on plans of 256 nodes with every operation (painted stack, x86-64); 48 KiB is enough. */
 lup_answer lup_check(const int64_t *table, size_t nwords, int64_t *derived, size_t nderived);
 
 /* Unpacks and checks in one call. The answer is the node count, 1..256, or, refused, 65536 times the number plus the place: a refusal of
  * lup_unpack with room for every plan, or of lup_check, 4 to 12: unpacked words break none of 1 to 3.
- * Stack: 64,272 bytes measured in the same way; 80 KiB is enough. */
+ * Stack: 64,536 bytes measured in the same way; 80 KiB is enough. */
 uint64_t lup_unpack_check(const uint8_t *bytes, size_t nbytes);
 
 /* Runs a plan. values and flags are the input: the elements of all PARAM nodes end to end in node order, flags 1 for a known number and 0 for
@@ -176,13 +183,13 @@ uint64_t lup_unpack_check(const uint8_t *bytes, size_t nbytes);
  * input is not the number of all PARAM elements; 14, a result buffer is shorter than all elements of all nodes; 15 or 16 at the first bad
  * position of the input (place: that position): a flag neither 0 nor 1; a known number outside its PARAM's low and high. Those lie in the PARAM's
  * type, so -32768, which some instruments write for "no reading", is 16 at every i16 PARAM where its flag is 1; with flag 0 it is not looked at.
- * Stack: 62,136 bytes measured on a plan with every kind of node (painted stack, x86-64); 80 KiB is enough. */
+ * Stack: 59,224 bytes measured on a plan with every kind of node (painted stack, x86-64); 80 KiB is enough. */
 lup_answer lup_run(const int64_t *table, size_t nwords, const int64_t *values, size_t nvalues, const uint8_t *flags, size_t nflags,
                    int64_t *out_values, size_t nout_values, uint8_t *out_flags, size_t nout_flags);
 
 /* Follows an element of a node back through PERMUTE, FLIP, RESHAPE, EXPAND, PAD, SHRINK and LOAD to the first other node: the place that it comes
- * from, which holds the same number or gap in every run, or a gap where a PAD put it. A node that is not followed answers itself. Nodes and
- * elements are counted from 0. Refusals, in order: those of lup_check but its 14; 17, there is no such node or element.
+ * from, which holds the same number or gap in every run, or a gap where a PAD put it. A node that is not followed answers itself, so FILL, KNOWN and
+ * STACK do. Nodes and elements are counted from 0. Refusals, in order: those of lup_check but its 14; 17, there is no such node or element.
  * Stack: 161,928 bytes measured on 255 nodes followed one after another (painted stack, x86-64), some 570 a node; 192 KiB is enough. */
 lup_found lup_lookup(const int64_t *table, size_t nwords, uint64_t node, uint64_t element);
 

@@ -9,6 +9,9 @@ proved code.
     place = plan.lookup(node, element)                     # where an element comes from; None for a gap
     data = lup.pack(table)                                 # the bytes of a plan file, of a table of 17 words a node
 
+OPERATIONS has the names of the operations by their numbers. A table with FILL, KNOWN or STACK is packed as a file of
+the second edition, any other as one of the first; both are read.
+
 unpack, pack, check, unpack_check, run and lookup are the calls of the header, on a plan's table of 17 words a node.
 A refusal raises Refused, with its number, its place and, in words, what was wrong and where. What is no whole
 numbers, or none that fit, raises TypeError or OverflowError; flags that contradict a mask raise ValueError.
@@ -63,7 +66,7 @@ if TYPE_CHECKING:
     Memory = Union['array[int]', memoryview, 'numpy.ndarray[Any, Any]']
     Numbers = Union[Iterable[int], Memory]
 
-__version__ = '5.0.0'
+__version__ = '5.1.0'
 __all__ = ['DTYPES', 'FILL_VALUE', 'OPERATIONS', 'Place', 'Plan', 'RULES', 'Record', 'Refused', 'Result', 'check',
            'lookup', 'pack', 'run', 'unpack', 'unpack_check', 'version']
 
@@ -72,14 +75,14 @@ NODE_WORDS, RECORD_WORDS, MOST_NODES, NUMBER_WORD, PARAM, BOOL = 17, 8, 256, 5, 
 MOST_PACKED_BYTES, LEAST_PACKED_WORD, MOST_PACKED_WORD = 11778, -17179869184, 17179869183
 DTYPES = ('bool', 'u8', 'i16', 'i32')
 OPERATIONS = tuple('CONST PARAM PERMUTE FLIP RESHAPE EXPAND PAD SHRINK CAST ADD MUL MAX IDIV MOD CMPLT CMPNE AND OR '
-                   'WHERE REDUCE LOAD'.split())
+                   'WHERE REDUCE LOAD FILL KNOWN STACK'.split())
 # What stands in a gap of a masked array: outside every type; cut to 32, 16 or 8 bits it is far below 0, and not 0.
 FILL_VALUE = -2 ** 63 + 2 ** 31 + 2 ** 15 + 2 ** 7
 
 # Every refusal: what its place counts, nothing where it has none, and what was wrong; the words are those of lup.
 RULES = {
     1: ('', 'length no multiple of 17, or not 1..256 nodes'),
-    2: ('node', 'operation not 0..20'),
+    2: ('node', 'operation not 0..23'),
     3: ('node', 'unused word not zero'),
     4: ('node', 'source negative or not earlier'),
     5: ('node', 'type not 0..3'),
@@ -98,9 +101,10 @@ RULES = {
     20: ('byte', 'bytes end before or inside a number'),
     21: ('byte', 'number not in its shortest form of at most 5 bytes'),
     22: ('byte', 'bytes left over'),
-    23: ('byte', 'node count not 1..256'),
-    24: ('byte', 'operation not 0..20'),
+    23: ('byte', 'node count not 1..256, or a first byte 0 without a 2 after it'),
+    24: ('byte', 'operation not 0..20, in a second edition file not 0..23'),
     25: ('node', 'a used word not in -17179869184..17179869183'),
+    26: ('byte', 'second edition file with no operation 21..23'),
 }
 # What rule 7 asks of an operation's row and number.
 ROWS = {
@@ -113,7 +117,10 @@ ROWS = {
     'SHRINK': 'no shape, or an offset not 0..1048576 or past the rank',
     'REDUCE': 'number neither 0 nor 1, or not a flag 0 or 1 for each axis of the source',
     'LOAD': 'device not 1..255',
+    'STACK': 'number neither 2 nor 3, or word 3 not 0 with number 2',
 }
+# What rule 8 asks of an operation's sources, where its words do not say all of it.
+SHAPES = {'STACK': 'sources not of one shape, of a rank over 3, or of over 1048576 elements together'}
 
 
 class Refused(Exception):
@@ -377,7 +384,7 @@ def _refused_table(number: int, place: int, table: Memory) -> Refused:
         return Refused(number, place, '', f'{len(table)} words' if number == 1 else '')
     words = [int(word) for word in table[NODE_WORDS * place:NODE_WORDS * (place + 1)]]
     operation = _named(words[0])
-    more = ROWS.get(operation, '') if number == 7 else _out_of_range(words) if number == 25 else ''
+    more = _out_of_range(words) if number == 25 else {7: ROWS, 8: SHAPES}.get(number, {}).get(operation, '')
     return Refused(number, place, f'node {place} ({operation})', more)
 
 
@@ -506,7 +513,7 @@ def version() -> int:
 
 
 def unpack(data: Numbers) -> Memory:
-    """The table of a packed plan, 17 words a node."""
+    """The table of a packed plan of either edition, 17 words a node."""
     table, held = _fresh('q', NODE_WORDS * MOST_NODES), _held(data, 'B', 'data')
     answer = _LIBRARY.lup_unpack(*_lent(held), *_lent(table))
     if answer.number:
@@ -515,8 +522,9 @@ def unpack(data: Numbers) -> Memory:
 
 
 def pack(table: Union[Plan, Numbers]) -> bytes:
-    """The packed bytes of a plan's table, which unpack gives back. Of the rules 1, 2 and 3 alone are asked, and that
-    used words can be packed (25): a table that check refuses is packed too."""
+    """The packed bytes of a plan's table, which unpack gives back, in the edition that its operations ask for. Of the
+    rules 1, 2 and 3 alone are asked, and that used words can be packed (25): a table that check refuses is packed
+    too."""
     words = table._words if isinstance(table, Plan) else table
     held, room = _held(words, 'q', 'table'), _fresh('B', MOST_PACKED_BYTES)
     answer = _LIBRARY.lup_pack(*_lent(held), *_lent(room))

@@ -96,8 +96,8 @@ static void pack_examples(void) {
     expect(answers(lup_pack(table, 17, bytes, 0), LUP_REFUSED_WORD_RANGE, 0, 0), "one above the range: refused 25 before 14");
     table[16] = INT64_MIN;
     expect(answers(lup_pack(table, 17, bytes, ROOM), 3, 0, 0), "an unused word: refused 3 before 25");
-    table[0] = 21;
-    expect(answers(lup_pack(table, 17, bytes, ROOM), 2, 0, 0), "operation 21: refused 2 before 3");
+    table[0] = 24;
+    expect(answers(lup_pack(table, 17, bytes, ROOM), 2, 0, 0), "operation 24: refused 2 before 3");
     expect(bytes_stay(bytes, 0), "refused: the bytes as they were");
 }
 
@@ -207,6 +207,78 @@ static void lookup_examples(void) {
     expect(finds(lup_lookup(NULL, 0, 0, 0), 1, 0, 0, 0), "no table: refused 1");
 }
 
+enum { THREE_NODES = 5, THREE_CELLS = 11, STACK_NODE = 4 };
+
+/* PARAM of two i16 numbers in -9..9, CONST 5, FILL of the one by the other, KNOWN of the PARAM, STACK of the PARAM and the FILL. */
+static void three_plan(int64_t *table) {
+    static const int64_t param[] = {1, 0, 0, 0, 2, 0, 1, -9, 9, 2}, number[] = {0, 0, 0, 0, 2, 5};
+    static const int64_t fill_words[] = {21, 0, 1}, known[] = {22, 0}, stack[] = {23, 0, 2, 0, 0, 2};
+
+    memset(table, 0, THREE_NODES * 17 * sizeof *table);
+    memcpy(table, param, sizeof param);
+    memcpy(table + 17, number, sizeof number);
+    memcpy(table + 2 * 17, fill_words, sizeof fill_words);
+    memcpy(table + 3 * 17, known, sizeof known);
+    memcpy(table + STACK_NODE * 17, stack, sizeof stack);
+}
+
+/* FILL, KNOWN and STACK by every call. */
+static void three_examples(void) {
+    static const int64_t inputs[] = {7, INT64_MIN}, wanted[] = {7, 0, 5, 7, 5, 1, 0, 7, 0, 7, 5};
+    static const uint8_t known[] = {1, 0}, wanted_flags[] = {1, 0, 1, 1, 1, 1, 1, 1, 0, 1, 1};
+    static const int64_t wanted_records[] = {2, 1, -9, 9, 2, 0, 0, 0, 0, 1, 0, 1, 2, 0, 0, 0, 2, 1, -9, 9, 2, 2, 0, 0};
+    static const size_t words = THREE_NODES * 17, room = THREE_NODES * 8;
+    int64_t table[THREE_NODES * 17], records[THREE_NODES * 8], values[ROOM];
+    uint8_t flags[ROOM];
+
+    three_plan(table);
+    expect(answers(lup_check(table, words, records, room), 0, 0, 0), "FILL, KNOWN and STACK: accepted");
+    expect(!memcmp(records + 2 * 8, wanted_records, sizeof wanted_records), "FILL, KNOWN and STACK: their types, devices, bounds and extents");
+    fill(values);
+    fill_bytes(flags);
+    expect(answers(lup_run(table, words, inputs, 2, known, 2, values, ROOM, flags, ROOM), 0, 0, 1), "the three: one gap in the output");
+    expect(!memcmp(values, wanted, sizeof wanted) && stays(values, THREE_CELLS), "the three: 7 5, 1 0, 7 gap 7 5; the values after them as they were");
+    expect(!memcmp(flags, wanted_flags, sizeof wanted_flags) && bytes_stay(flags, THREE_CELLS), "the flags of FILL, KNOWN and STACK");
+    expect(finds(lup_lookup(table, words, STACK_NODE, 3), 0, 1, STACK_NODE, 3), "element 3 of the STACK: itself");
+    expect(finds(lup_lookup(table, words, 2, 1), 0, 1, 2, 1), "element 1 of the FILL: itself");
+    expect(finds(lup_lookup(table, words, 3, 1), 0, 1, 3, 1), "element 1 of the KNOWN: itself");
+
+    table[STACK_NODE * 17 + 3] = 1;
+    expect(answers(lup_check(table, words, records, room), 7, STACK_NODE, 0), "a word 3 not zero with number 2: refused 7");
+    table[STACK_NODE * 17 + 5] = 3;
+    expect(answers(lup_check(table, words, records, room), 8, STACK_NODE, 0), "a number as the third of two rows: refused 8");
+    table[STACK_NODE * 17 + 3] = STACK_NODE;
+    expect(answers(lup_check(table, words, records, room), 4, STACK_NODE, 0), "a STACK as its own third source: refused 4");
+    table[STACK_NODE * 17 + 5] = 4;
+    expect(answers(lup_check(table, words, records, room), 7, STACK_NODE, 0), "a STACK of four: refused 7, its word 3 not read");
+    table[STACK_NODE * 17] = 24;
+    expect(answers(lup_check(table, words, records, room), 2, STACK_NODE, 0), "operation 24: refused 2");
+}
+
+/* The file of that plan, and files of neither edition. */
+static void edition_examples(void) {
+    static const uint8_t file[] = {0x00, 0x02, 0x05, 0x01, 0x04, 0x00, 0x02, 0x11, 0x12, 0x04, 0x00, 0x00, 0x00,
+                                   0x00, 0x04, 0x0A, 0x15, 0x00, 0x02, 0x16, 0x00, 0x17, 0x00, 0x04, 0x00, 0x04};
+    static const uint8_t no_new[] = {0x00, 0x02, 0x01, 0x00, 0x04, 0x0A}, third[] = {0x00, 0x03, 0x01, 0x16, 0x00};
+    int64_t table[THREE_NODES * 17], again[THREE_NODES * 17];
+    uint8_t bytes[sizeof file];
+
+    three_plan(table);
+    expect(answers(lup_pack(table, THREE_NODES * 17, bytes, sizeof bytes), 0, 0, sizeof file), "the second edition: 26 bytes");
+    expect(!memcmp(bytes, file, sizeof file), "the second edition: 00 02, the count, the nodes");
+    expect(answers(lup_pack(table, THREE_NODES * 17, bytes, sizeof bytes - 1), 14, 0, 0), "a byte less: refused 14");
+    expect(answers(lup_unpack(file, sizeof file, again, THREE_NODES * 17), 0, 0, THREE_NODES), "the second edition: five nodes");
+    expect(!memcmp(again, table, sizeof table), "the second edition: read back");
+    expect(lup_unpack_check(file, sizeof file) == THREE_NODES, "the second edition: five nodes in one call");
+    expect(answers(lup_unpack(file + 2, sizeof file - 2, again, THREE_NODES * 17), 24, 14, 0), "without 00 02: refused 24 at the FILL");
+    expect(answers(lup_unpack(no_new, sizeof no_new, again, 17), 26, 0, 0), "00 02 and no new operation: refused 26");
+    expect(lup_unpack_check(no_new, sizeof no_new) == 26 * 65536, "00 02 and no new operation: 26 at 0");
+    expect(answers(lup_unpack(third, sizeof third, again, 17), 23, 0, 0), "00 03: refused 23");
+    expect(answers(lup_unpack(third, 1, again, 17), 23, 0, 0), "00 alone: refused 23");
+    expect(answers(lup_unpack(no_new, 2, again, 17), 20, 2, 0), "00 02 alone: refused 20 at 2");
+    expect(!memcmp(again, table, sizeof table), "refused: the table as it was");
+}
+
 int main(void) {
     expect(lup_version() == LUP_VERSION, "the version of the header");
     unpack_examples();
@@ -215,6 +287,8 @@ int main(void) {
     i16_examples();
     run_examples();
     lookup_examples();
+    three_examples();
+    edition_examples();
     printf("%u passed, %u failed\n", passed, failed);
     return failed != 0;
 }

@@ -3,8 +3,8 @@ vectors run them."""
 
 from collections import namedtuple
 
-from cases import LARGE, apply, at_axis, const, large, move, node, param, reduce_node
-from model import ADD, CAST, EXPAND, FLIP, LOAD, MOD, PAD, PERMUTE, RESHAPE, SHRINK, WHERE
+from cases import LARGE, UNKNOWN, apply, at_axis, const, large, load, move, node, param, reduce_node, stack
+from model import ADD, CAST, EXPAND, FILL, FLIP, KNOWN, LOAD, MOD, PAD, PERMUTE, RESHAPE, SHRINK, STACK, WHERE
 
 BOOL, U8, I16, I32 = range(4)
 MOST = 2 ** 64 - 1
@@ -83,6 +83,22 @@ FOUND = [
     *found('the least CONST of i16', const(I16, -32767), 0, (0, 0)),
     *found('a node before the last', TURNED + move(FLIP, 1, (1, 0)), 1, (0, 0), (0, 3), (0, 1), (0, 4), (0, 2), (0, 5)),
 ]
+# node 1 is the pair turned round, so that a place in it is not the same place in node 0
+TURNED_PAIR = PAIR + move(FLIP, 0, (1,))
+STOPPED = [
+    # (02) "lookups stop at them": the answer is the node itself, under movements too
+    *found('FILL', TURNED_PAIR + apply(FILL, 1, 0), 2, (2, 0), (2, 1)),
+    *found('KNOWN', TURNED_PAIR + apply(KNOWN, 1), 2, (2, 0), (2, 1)),
+    *found('STACK of two', TURNED_PAIR + stack(1, 0), 2, (2, 0), (2, 1), (2, 2), (2, 3)),
+    *found('FILL of a row by a number', TURNED_PAIR + const(I16, 5) + apply(FILL, 1, 2) + load(3, 7), 4, (3, 0), (3, 1)),
+    *found('FILL of a number by a row', TURNED_PAIR + const(I16, 5) + apply(FILL, 2, 1) + move(FLIP, 3, (1,)), 4, (3, 1), (3, 0)),
+    *found('FLIP of KNOWN', TURNED_PAIR + apply(KNOWN, 1) + move(FLIP, 2, (1,)), 3, (2, 1), (2, 0)),
+    *found('SHRINK of KNOWN of what PAD put there', PADDED + apply(KNOWN, 1) + move(SHRINK, 2, (2,), (3,)), 3, (2, 3), (2, 4)),
+    *found('STACK flipped on its new axis', TURNED_PAIR + stack(0, 1) + move(FLIP, 2, (1, 0)), 3, (2, 2), (2, 3), (2, 0), (2, 1)),
+    *found('STACK of three with its new axis last', TURNED_PAIR + stack(0, 1, 1) + move(PERMUTE, 2, (1, 0)), 3, (2, 0), (2, 2), (2, 4), (2, 1), (2, 3), (2, 5)),
+    *found('STACK padded', TURNED_PAIR + stack(1, 1) + move(PAD, 2, (3, 2), (1, 0)), 3, None, None, (2, 0), (2, 1), (2, 2), (2, 3)),
+    *found('one part of a STACK', TURNED_PAIR + stack(0, 1) + move(SHRINK, 2, (1, 2), (1, 0)) + move(RESHAPE, 3, (2,)) + load(4, 3), 5, (2, 2), (2, 3)),
+]
 REFUSED = [
     # 17 "lookup node or element not there"
     *(refused(f'node {n} of two', 17, 0, TURNED, n) for n in (2, 3, 255, 256, 2 ** 32, 2 ** 63, MOST)),
@@ -93,12 +109,17 @@ REFUSED = [
     # "A lookup gives 17 after 12."
     refused('1 before 17', 1, 0, SIX[:16], 9, 9),
     refused('no words', 1, 0, [], 0, 0),
-    refused('2 before 17', 2, 1, SIX + node(21), 9, 9),
+    refused('2 before 17', 2, 1, SIX + node(UNKNOWN), 9, 9),
     refused('4 before 17', 4, 1, SIX + move(FLIP, 1, (1, 0)), 9, 9),
     refused('11 of a node after the one asked', 11, 2, TURNED + const(BOOL, 2), 1, 3),
     # (02) "The range of i16 becomes −32767..32767, wherever a type's range is asked for."
     refused('11 of −32768', 11, 2, TURNED + const(I16, -32768), 1, 3),
     refused('12 before 17', 12, 0, large(*[(LARGE,)] * 4) + const(BOOL, 1), 9, 0),
+    # (02) "STACK's number, or a word 3 not zero with number 2, is 7 .., its shapes and rank 8"
+    refused('7 of a STACK of four', 7, 1, PAIR + node(STACK, {5: 4}), 0, 0),
+    refused('7 of a word 3 not zero', 7, 1, PAIR + node(STACK, {3: 1, 5: 2}), 0, 0),
+    refused('8 of a STACK of rank 4', 8, 1, SIXTEEN + stack(0, 0), 0, 0),
+    *(refused(f'element {e} of a STACK of four cells', 17, 0, PAIR + stack(0, 0), 1, e) for e in (4, MOST)),
 ]
 
-EXAMPLES = [*FOUND, *REFUSED]
+EXAMPLES = [*FOUND, *STOPPED, *REFUSED]

@@ -3,8 +3,8 @@ and the model, tests/tools/vectors.py makes them cases of the program vectors.""
 
 from collections import namedtuple
 
-from cases import BIG, LARGE, apply, const, large, load, move, node, param
-from model import ADD, CONST, IDIV, LOAD, MAX, PARAM, RESHAPE, WHERE
+from cases import BIG, LARGE, UNKNOWN, apply, const, large, load, move, node, param, stack
+from model import ADD, CONST, FILL, IDIV, KNOWN, LOAD, MAX, PARAM, RESHAPE, STACK, WHERE
 
 # room: in bytes. answer: number, place, count. data: the bytes written; none where the call is refused.
 Example = namedtuple('Example', 'name table room answer data')
@@ -41,11 +41,22 @@ NODES = (
     ('WHERE', {1: 1, 2: 2, 3: 3}, '12 02 04 06'),
     ('REDUCE', {1: 1, 5: 2, 9: 3, 10: 4, 11: 5, 12: -6}, '13 02 04 06 08 0A 0B'),
     ('LOAD', {1: 1, 6: 7}, '14 02 0E'),
+    # (02) "FILL (21, sources T and C", "KNOWN (22, one source)", "STACK (23, words 1,2,3,5)"
+    ('FILL', {1: 1, 2: -2}, '15 02 03'), ('KNOWN', {1: 1}, '16 02'), ('STACK', {1: 1, 2: -2, 3: 3, 5: -4}, '17 02 03 06 07'),
 )
-BY_OPERATION = [packs(f'{name}', node(op, words), f'01 {text}') for op, (name, words, text) in enumerate(NODES)]
-BY_OPERATION += [packs(f'{name} of zeros', node(op), f'01 {op:02X}' + ' 00' * len(words)) for op, (name, words, _) in enumerate(NODES)]
-BY_OPERATION += [packs('every operation', sum((node(op, words) for op, (_, words, _) in enumerate(NODES)), []),
-                       '15' + ''.join(text for _, _, text in NODES))]
+OF_FIRST = NODES[:FILL]
+
+
+def edition(op):
+    """(02) "A second edition file starts with bytes 00 02"; "The writer picks the edition.\""""
+    return '00 02' if op in (FILL, KNOWN, STACK) else ''
+
+
+BY_OPERATION = [packs(f'{name}', node(op, words), f'{edition(op)} 01 {text}') for op, (name, words, text) in enumerate(NODES)]
+BY_OPERATION += [packs(f'{name} of zeros', node(op), f'{edition(op)} 01 {op:02X}' + ' 00' * len(words)) for op, (name, words, _) in enumerate(NODES)]
+BY_OPERATION += [packs(f'every operation{name}', sum((node(op, words) for op, (_, words, _) in enumerate(nodes)), []),
+                       head + ''.join(text for _, _, text in nodes))
+                 for name, head, nodes in (('', '00 02 18', NODES), (' of the first edition', '15', OF_FIRST))]
 # 3 "unused word not zero"
 UNUSED = [refused(f'{name} with word {k} not zero', 3, 0, node(op, {k: (1, -1, BIG - 1, -BIG)[k % 4]}), k % 3)
           for op, (name, words, _) in enumerate(NODES) for k in range(1, 17) if k not in words]
@@ -93,14 +104,14 @@ LENGTHS = [
     packs('256 nodes', FIVE * 256, '80 02' + '00 04 0A' * 256, 1),
     packs('two nodes', FIVE + load(0, 1), '02 00 04 0A 14 00 02'),
     packs('three nodes', FIVE + load(0, 1) + apply(ADD, 0, 1), '03 00 04 0A 14 00 02 09 00 02'),
-    # 2 "operation not 0..20"
-    refused('operation 21', 2, 0, node(21)),
+    # 2 "operation not 0..20"; (02) "in 01's rule 2 .. the limit is 23"
+    refused('operation 24', 2, 0, node(24)),
     refused('operation −1', 2, 0, node(-1)),
     refused('operation 2^63 − 1', 2, 0, node(BIG - 1)),
     refused('operation −2^63', 2, 0, node(-BIG)),
     refused('operation 2^32, whose low half is CONST', 2, 0, node(2 ** 32)),
     # places: the node
-    refused('operation 21 in the last of three nodes', 2, 2, FIVE * 2 + node(21)),
+    refused('operation 24 in the last of three nodes', 2, 2, FIVE * 2 + node(24)),
     refused('an unused word in the second of three nodes', 3, 1, FIVE + node(CONST, {9: 1}) + FIVE),
     refused('a word out of range in the second of three nodes', 25, 1, FIVE + const(I32, 2 ** 40) + FIVE),
 ]
@@ -125,14 +136,14 @@ ROOMS = [
 ALL_SET = dict.fromkeys(range(1, 17), 2 ** 40)
 UNUSED_SET, OUT_OF_RANGE = node(CONST, {4: 2, 9: 1}), const(I32, 2 ** 40)
 ORDER = [
-    refused('1 before 2', 1, 0, node(21) + [0]),
+    refused('1 before 2', 1, 0, node(UNKNOWN) + [0]),
     refused('1 before 3', 1, 0, UNUSED_SET + [0]),
     refused('1 before 25', 1, 0, OUT_OF_RANGE + [0]),
     refused('1 before 14', 1, 0, FIVE[:16], 0),
-    refused('2 before 3', 2, 0, node(21, {1: 1})),
+    refused('2 before 3', 2, 0, node(UNKNOWN, {1: 1})),
     refused('2 before 25', 2, 0, node(-1, {4: 2 ** 40, 5: -BIG})),
-    refused('2 before 3 and 25', 2, 0, node(21, ALL_SET)),
-    refused('2 before 14', 2, 0, node(21), 0),
+    refused('2 before 3 and 25', 2, 0, node(UNKNOWN, ALL_SET)),
+    refused('2 before 14', 2, 0, node(UNKNOWN), 0),
     refused('3 before 25, the used words first', 3, 0, node(CONST, {4: 2 ** 40, 5: 2 ** 40, 16: 1})),
     refused('3 before 25, the unused word first', 3, 0, node(LOAD, {2: 1, 6: 2 ** 40})),
     refused('3 before 25, an unused word out of range', 3, 0, node(WHERE, dict.fromkeys((1, 2, 3, 4), 2 ** 40))),
@@ -140,12 +151,12 @@ ORDER = [
     refused('3 before 14', 3, 0, UNUSED_SET, 0),
     refused('25 before 14', 25, 0, OUT_OF_RANGE, 0),
     refused('25 before 14, one short', 25, 1, FIVE + OUT_OF_RANGE, 3),
-    refused('25 of a node before 2 of the next', 25, 0, OUT_OF_RANGE + node(21)),
+    refused('25 of a node before 2 of the next', 25, 0, OUT_OF_RANGE + node(UNKNOWN)),
     refused('25 of a node before 3 of the next', 25, 0, OUT_OF_RANGE + UNUSED_SET),
-    refused('3 of a node before 2 of the next', 3, 0, UNUSED_SET + node(21)),
+    refused('3 of a node before 2 of the next', 3, 0, UNUSED_SET + node(UNKNOWN)),
     refused('3 of a node before 25 of the next', 3, 0, UNUSED_SET + OUT_OF_RANGE),
-    refused('2 of a node before 25 of the next', 2, 0, node(21) + OUT_OF_RANGE),
-    refused('25, 3, 2 in turn after a good node', 25, 1, FIVE + OUT_OF_RANGE + UNUSED_SET + node(21)),
+    refused('2 of a node before 25 of the next', 2, 0, node(UNKNOWN) + OUT_OF_RANGE),
+    refused('25, 3, 2 in turn after a good node', 25, 1, FIVE + OUT_OF_RANGE + UNUSED_SET + node(UNKNOWN)),
 ]
 # (02) "It takes exactly the tables that meet rules 1, 2 and 3 and whose used words lie in ..": rules 4 to 12 are not asked. A node that breaks each
 # after two PARAMs, of devices 1 and 2, and a CONST.
@@ -157,4 +168,35 @@ UNCHECKED = [packs(f'rule {number} is not asked', GROUND + words, f'04 {GROUND_T
 UNCHECKED += [packs('rule 12 is not asked', large(*[(LARGE,)] * 4) + const(I32, 1),
                     '05' + ''.join(f'01 06 {2 * slot:02X} 02 00 02 80 80 80 01 00 00 00' for slot in range(4)) + '00 06 02')]
 
-EXAMPLES = [*BY_OPERATION, *UNUSED, *OUTSIDE, *NUMBERS, *LENGTHS, *ROOMS, *ORDER, *UNCHECKED]
+# ------------------------------------------------------ second edition
+# (02) "A second edition file starts with bytes 00 02, then count and nodes as before; it must hold at least one new operation, so each plan still has one
+# file. The writer picks the edition."
+
+EDITIONS = [
+    packs('a CONST filled by itself', FIVE + apply(FILL, 0, 0), '00 02 02 00 04 0A 15 00 00'),
+    packs('a CONST and whether it is known', FIVE + apply(KNOWN, 0), '00 02 02 00 04 0A 16 00'),
+    # "other words n are written as 2n": STACK's sources, its word 3 too, and its number
+    packs('a STACK of two', FIVE + stack(0, 0), '00 02 02 00 04 0A 17 00 00 00 04'),
+    packs('a STACK of three', FIVE * 2 + stack(0, 1, 1), '00 02 03 00 04 0A 00 04 0A 17 00 02 02 06'),
+    packs('a new operation in the first of two nodes', apply(KNOWN, 0) + FIVE, '00 02 02 16 00 00 04 0A'),
+    packs('a new operation in the second of three nodes', FIVE + apply(KNOWN, 0) + FIVE, '00 02 03 00 04 0A 16 00 00 04 0A'),
+    packs('each new operation', FIVE + apply(FILL, 0, 0) + apply(KNOWN, 1) + stack(1, 0), '00 02 04 00 04 0A 15 00 00 16 02 17 02 00 00 04'),
+    packs('no new operation', FIVE + load(0, 2), '02 00 04 0A 14 00 04'),
+    # (02) "then 14 for room", that of the whole file; (02) "The answer carries the length written."
+    packs('room exact for the edition too', FIVE + apply(KNOWN, 0), '00 02 02 00 04 0A 16 00', 0),
+    packs('room to spare after the second edition', FIVE + apply(KNOWN, 0), '00 02 02 00 04 0A 16 00', 20),
+    *(refused(f'{room} bytes of room for eight', 14, 0, FIVE + apply(KNOWN, 0), room) for room in (0, 1, 2, 3, 6, 7)),
+    # (02) "It takes exactly the tables that meet rules 1, 2 and 3 ..": STACK's rules are not asked, and its word 3 is a used word
+    packs('a STACK of two with a word 3 not zero', node(STACK, {3: 5, 5: 2}), '00 02 01 17 00 00 0A 04'),
+    packs('a STACK of nine', node(STACK, {1: 7, 5: 9}), '00 02 01 17 0E 00 00 12'),
+    packs('STACK with words of five bytes', node(STACK, {1: LEAST, 2: GREATEST, 3: LEAST, 5: GREATEST}),
+          '00 02 01 17 FF FF FF FF 7F FE FF FF FF 7F FF FF FF FF 7F FE FF FF FF 7F'),
+    *(refused(f'{value} in word {word} of STACK', 25, 0, node(STACK, {5: 2, word: value}), 0) for word in (1, 2, 3, 5) for value in (-BIG, BIG - 1)),
+    refused('2 after a new operation', 2, 1, apply(KNOWN, 0) + node(24)),
+    refused('3 after a new operation', 3, 1, stack(0, 0) + UNUSED_SET),
+    refused('3 before 25 of a STACK', 3, 0, node(STACK, {3: 2 ** 40, 4: 1, 5: 2})),
+    refused('25 after a new operation', 25, 1, apply(FILL, 0, 0) + OUT_OF_RANGE, 0),
+    refused('1 of a new operation', 1, 0, apply(KNOWN, 0) + [0]),
+]
+
+EXAMPLES = [*BY_OPERATION, *UNUSED, *OUTSIDE, *NUMBERS, *LENGTHS, *ROOMS, *ORDER, *UNCHECKED, *EDITIONS]

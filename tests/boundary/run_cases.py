@@ -7,8 +7,8 @@ from random import Random
 
 import cases
 import model
-from cases import BIG, apply, const, move, node, param, reduce_node
-from model import (ADD, AND, CAST, CMPLT, CMPNE, EXPAND, FLIP, IDIV, LOAD, MAX, MOD, MUL, OR, PAD, PARAM, PERMUTE, RESHAPE, SHRINK, WHERE)
+from cases import BIG, OPERATIONS, apply, const, move, node, param, reduce_node, stack
+from model import (ADD, AND, CAST, CMPLT, CMPNE, EXPAND, FILL, FLIP, IDIV, KNOWN, LOAD, MAX, MOD, MUL, NEW, OR, PAD, PARAM, PERMUTE, RESHAPE, SHRINK, WHERE)
 
 I16, I32 = 2, 3
 WIDE = 1000
@@ -53,7 +53,7 @@ def depth(table):
     """The longest chain of sources."""
     lengths = []
     for first in range(0, len(table), 17):
-        sources = [table[first + word] for word in (1, 2, 3) if word in model.USED_WORDS[table[first]]]
+        sources = [table[first + word] for word in model.source_words(table[first:first + 17])]
         lengths.append(1 + max((lengths[source] for source in sources), default=0))
     return max(lengths)
 
@@ -93,7 +93,7 @@ def some_runs(rng, note, table, shares=(0, 0.1, 0.5)):
 def random_runs(rng, count):
     """Every operation at every rank in turn, with no, few and many gaps."""
     for turn in range(count):
-        op, rank = turn % 21, (turn // 21) % 5
+        op, rank = turn % OPERATIONS, (turn // OPERATIONS) % 5
         plan = cases.make_plan(rng, op, rank)
         yield Run(f'random {turn}', plan.table, *cases.random_inputs(rng, plan, rng.choice((0, 0.1, 0.3, 0.6))))
 
@@ -113,7 +113,7 @@ def chain_runs(rng, count):
         for _ in range(6 * nodes):
             if len(plan.records) >= nodes:
                 break
-            plan.add(cases.propose(late, plan, late.choice(range(21)), base))
+            plan.add(cases.propose(late, plan, late.choice(range(OPERATIONS)), base))
         yield Run(f'chain {turn}', plan.table, *inputs_of(rng, plan.table, rng.choice((0, 0.02, 0.1))))
 
 
@@ -135,7 +135,7 @@ def computed_runs(rng, count):
     for turn in range(count):
         half = (1, 512, 2, 1023, 4, 1024, 513, 1025)[turn % 8]
         nodes = {1: 120, 2: 120, 4: 120, 512: 60, 513: 60}.get(half, 45) // (1 + 2 * (turn // 8 % 2))
-        table = computed_plan(late, half, nodes, [] if turn % 3 else [FLIP, CAST, LOAD, 0])
+        table = computed_plan(late, half, nodes, [] if turn % 3 else [FLIP, CAST, LOAD, 0, *NEW])
         note, share = f'computed {turn}, rows of {half} and {2 * half}', rng.choice((0, 0.001, 0.1))
         yield Run(note, table, *inputs_of(rng, table, share))
         yield Run(note + ', gaps at edges', table, *at_edges(rng, table))
@@ -210,21 +210,39 @@ def reduce_runs(rng):
 
 BINARY_LIMITS = {ADD: (I16, (-WIDE, WIDE), (-WIDE, WIDE)), MUL: (I32, (-WIDE, WIDE), (-WIDE, WIDE)), MAX: (I16, (-WIDE, WIDE), (-WIDE, WIDE)),
                  IDIV: (I16, (-WIDE, WIDE), (-9, -1)), MOD: (I16, (-WIDE, WIDE), (2, 99)), CMPLT: (I16, (-3, 3), (-3, 3)),
-                 CMPNE: (I16, (-1, 1), (-1, 1)), AND: (0, (0, 1), (0, 1)), OR: (0, (0, 1), (0, 1))}
+                 CMPNE: (I16, (-1, 1), (-1, 1)), AND: (0, (0, 1), (0, 1)), OR: (0, (0, 1), (0, 1)), FILL: (I16, (-WIDE, WIDE), (-WIDE, WIDE))}
 BROADCASTING = [shape for rank in range(5) for shape in partly_one(BASE[4 - rank:])]
 
 
 def broadcast_runs(rng, wheres):
-    """A binary operation on each pair of shapes that meet in 2x3x2x2, and some WHEREs on three of them."""
+    """A binary operation, and FILL, on each pair of shapes that meet in 2x3x2x2, and some WHEREs on three of them."""
     for turn, (first, second) in enumerate(product(BROADCASTING, repeat=2)):
-        op = model.BINARY[turn % len(model.BINARY)]
-        dtype, *limits = BINARY_LIMITS[op]
-        table = param(0, dtype, *limits[0], first) + param(1, dtype, *limits[1], second) + apply(op, 0, 1)
-        yield from some_runs(rng, f'operation {op} on {first} and {second}', table, (rng.choice((0, 0.1, 0.4)),))
+        for op in (model.BINARY[turn % len(model.BINARY)], FILL):
+            dtype, *limits = BINARY_LIMITS[op]
+            table = param(0, dtype, *limits[0], first) + param(1, dtype, *limits[1], second) + apply(op, 0, 1)
+            yield from some_runs(rng, f'operation {op} on {first} and {second}', table, (rng.choice((0, 0.1, 0.4)),))
     for _ in range(wheres):
         condition, second, third = rng.choices(BROADCASTING, k=3)
         table = param(0, 0, 0, 1, condition) + param(1, I16, -WIDE, WIDE, second) + param(2, I16, -WIDE, WIDE, third) + apply(WHERE, 0, 1, 2)
         yield from some_runs(rng, f'WHERE on {condition}, {second}, {third}', table, (rng.choice((0, 0.1, 0.4)),))
+
+
+def known_runs(rng):
+    """KNOWN of every such shape, its cells counted by every choice of axes, and chosen by."""
+    for shape in BROADCASTING:
+        table = numbered(shape) + apply(KNOWN, 0) + node(CAST, {1: 1, 4: I16}) + const(I16, -1) + apply(WHERE, 1, 0, 3) + apply(FILL, 0, 3) + apply(KNOWN, 1)
+        table += sum((reduce_node(2, 0, flags) for flags in product((0, 1), repeat=len(shape))), [])
+        yield from some_runs(rng, f'KNOWN of {shape}', table)
+
+
+def stack_runs(rng):
+    """Every two and every three of three PARAMs of one shape, of each rank that a STACK takes; and what is made of them joined again."""
+    for shape in ((), (1,), (4,), (1, 3), (2, 1), (2, 3), (2, 1, 3), (1, 1, 1), (2, 3, 2)):
+        table = sum((numbered(shape, slot) for slot in range(3)), [])
+        several = [sources for number in (2, 3) for sources in product(range(3), repeat=number)]
+        yield from some_runs(rng, f'STACK of {shape}', table + sum((stack(*sources) for sources in several), []))
+        made = apply(FILL, 0, 1) + move(FLIP, 1, [1] * len(shape)) + node(LOAD, {1: 2, 6: 1})
+        yield from some_runs(rng, f'STACK of what is made of {shape}', table + made + stack(3, 4) + stack(5, 3, 4) + apply(KNOWN, 6) + apply(KNOWN, 7))
 
 
 def at_edges(rng, table):
@@ -241,13 +259,14 @@ def at_edges(rng, table):
 
 
 def long_runs(rng):
-    """Every binary operation and WHERE on rows about as long as what is done at once: eight cells, 1024 cells."""
+    """Every binary operation, WHERE and the three of the second edition on rows about as long as what is done at once: eight cells, 1024 cells."""
     for n, (first, second) in product((7, 8, 9, 1023, 1024, 1025, 2049), (('n', 'n'), ('n', ''), ('', 'n'), ('2n', 'n'), ('2n', '2'))):
         shapes = [{'': (), 'n': (n,), '2n': (2, n), '2': (2, 1)}[shape] for shape in (first, second)]
         table = param(0, I16, -WIDE, WIDE, shapes[0]) + param(1, I16, 2, 9, shapes[1]) + param(2, I16, -WIDE, WIDE, shapes[1])
         table += param(3, 0, 0, 1, shapes[0]) + param(4, 0, 0, 1, shapes[1])
         table += sum((apply(op, 0, 1) for op in (ADD, MAX, IDIV, MOD, CMPLT, CMPNE)), []) + node(CAST, {1: 0, 4: I32}) + node(CAST, {1: 1, 4: I32})
         table += apply(MUL, 11, 12) + apply(AND, 3, 4) + apply(OR, 3, 4) + apply(WHERE, 3, 1, 2) + apply(WHERE, 4, 0, 5)
+        table += apply(FILL, 0, 1) + apply(FILL, 2, 0) + apply(KNOWN, 0) + apply(KNOWN, 18) + stack(0, 0) + stack(1, 2, 1)
         note = f'rows of {n}: {shapes[0]} and {shapes[1]}'
         yield from some_runs(rng, note, table, (0, 0.3) if n < 10 else (0.002,))
         yield Run(note + ', gaps at edges', table, *at_edges(rng, table))
@@ -298,7 +317,8 @@ def number_runs():
                                (ADD, 1, [0, 1, 127, None]), (MUL, I32, [-46340, -2, -1, 0, 1, 46340, None]), (MUL, 1, [0, 1, 15, None]),
                                (MAX, I32, [low, -1, 0, high, None]),
                                (CMPLT, I32, [low, low + 1, -1, 0, 1, high, None]), (CMPNE, I32, [low, -1, 0, 1, high, None]),
-                               (CMPLT, 1, [0, 1, 254, 255, None]), (CMPNE, 0, [0, 1, None]), (AND, 0, [0, 1, None]), (OR, 0, [0, 1, None])):
+                               (CMPLT, 1, [0, 1, 254, 255, None]), (CMPNE, 0, [0, 1, None]), (AND, 0, [0, 1, None]), (OR, 0, [0, 1, None]),
+                               (FILL, 0, [0, 1, None]), (FILL, 1, [0, 1, 254, 255, None]), (FILL, I16, i16_ends), (FILL, I32, [low, -1, 0, 1, high, None])):
         yield Run(f'operation {op} each with each', *each_with_each(op, dtype, numbers, numbers))
     table = param(0, 0, 0, 1, (3, 1, 1)) + param(1, I32, low, high, (3, 1)) + param(2, I32, low, high, (3,)) + apply(WHERE, 0, 1, 2)
     yield Run('WHERE each with each', *cases.hand_run(table, [0, 1, None, low, 5, None, high, None, 6]).args[:3])
@@ -328,7 +348,7 @@ def no_reading_plan(rng):
         dtype = (I16, I32)[(first + slot) % 2]
         plan.add(param(slot, dtype, *rng.choice(NO_READING_LIMITS[dtype]), base))
     for _ in range(rng.randint(2, 8)):
-        plan.add(cases.propose(rng, plan, rng.randrange(2, 21), base))
+        plan.add(cases.propose(rng, plan, rng.randrange(2, OPERATIONS), base))
     return plan
 
 
@@ -361,7 +381,7 @@ def no_reading_runs(rng, count):
 
 def by_hand():
     """The runs by hand of tests/model."""
-    for case in (*cases.elementwise_runs(), *cases.movement_runs()):
+    for case in (*cases.elementwise_runs(), *cases.movement_runs(), *cases.three_runs()):
         yield Run(case.note, *case.args[:3])
     slots = sum((param(k, I32, -k, k, ((k % 3) + 1,)) + const(I32, k) for k in range(16)), [])
     yield Run('16 PARAMs between CONSTs', slots, [v for k in range(16) for v in ([k, -k, 0][:k % 3 + 1])], [1] * sum(k % 3 + 1 for k in range(16)))
@@ -375,4 +395,6 @@ def fixed_runs(rng):
     yield from movement_runs(rng)
     yield from reduce_runs(rng)
     yield from broadcast_runs(rng, 600)
+    yield from known_runs(rng)
+    yield from stack_runs(rng)
     yield from long_runs(rng)

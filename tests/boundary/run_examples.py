@@ -5,8 +5,8 @@ An input is a number (known), GAP (flag 0 over a number that no limits hold) or 
 
 from collections import namedtuple
 
-from cases import BIG, LARGE, apply, at_axis, const, large, move, node, param, reduce_node
-from model import (ADD, AND, CAST, CMPLT, CMPNE, EXPAND, FLIP, IDIV, LOAD, MAX, MOD, MUL, OR, PAD, PERMUTE, RESHAPE, SHRINK, WHERE)
+from cases import BIG, LARGE, UNKNOWN, apply, at_axis, const, large, move, node, param, reduce_node, stack
+from model import (ADD, AND, CAST, CMPLT, CMPNE, EXPAND, FILL, FLIP, IDIV, KNOWN, LOAD, MAX, MOD, MUL, OR, PAD, PERMUTE, RESHAPE, SHRINK, STACK, WHERE)
 
 GAP = None
 BOOL, U8, I16, I32 = range(4)
@@ -222,23 +222,23 @@ X, Y, P, Q = [-7, 5], [2, 3], [0, 1], [1, 1]
 
 
 def at_rank(rank, *results):
-    """Two numbers and two bools, or pairs of them on the last axis, by operations 2 to 20 (REDUCE by both numbers): the elements of each."""
+    """Two numbers and two bools, or pairs of them on the last axis, by operations 2 to 22 (REDUCE by both numbers): the elements of each."""
     ones, zeros = [1] * (rank - 1), [0] * (rank - 1)
     pair, last, one, three = ([*ones, 2], [*zeros, 1], [*ones, 1], [*ones, 3]) if rank else ([], [], [], [])
     table = param(0, I16, -9, 9, pair) + param(1, I16, 1, 9, pair) + param(2, BOOL, 0, 1, pair) + param(3, BOOL, 0, 1, pair)
     table += move(PERMUTE, 0, range(rank)[::-1]) + move(FLIP, 0, last) + move(RESHAPE, 0, pair) + move(EXPAND, 0, pair)
     table += move(PAD, 0, three, last) + move(SHRINK, 0, one, last) + node(CAST, {1: 0, 4: I32})
     table += sum((apply(op, 0, 1) for op in (ADD, MUL, MAX, IDIV, MOD, CMPLT, CMPNE)), []) + apply(AND, 2, 3) + apply(OR, 2, 3)
-    table += apply(WHERE, 2, 0, 1) + reduce_node(0, 0, last) + reduce_node(0, 1, last) + node(LOAD, {1: 0, 6: 9})
+    table += apply(WHERE, 2, 0, 1) + reduce_node(0, 0, last) + reduce_node(0, 1, last) + node(LOAD, {1: 0, 6: 9}) + apply(FILL, 1, 0) + apply(KNOWN, 0)
     sources = [several[:2 if rank else 1] for several in (X, Y, P, Q)]
     return completes(f'every operation of rank {rank}', table, sum(sources, []), *sources, *results)
 
 
 RANKS = [
     # "Rank is 0 to 4."
-    at_rank(0, *[[-7]] * 7, [-5], [-14], [2], [-4], [1], [1], [1], [0], [1], [2], [-7], [-7], [-7]),
+    at_rank(0, *[[-7]] * 7, [-5], [-14], [2], [-4], [1], [1], [1], [0], [1], [2], [-7], [-7], [-7], [2], [1]),
     *(at_rank(rank, X, [5, -7], X, X, [GAP, -7, 5], [5], X, [-5, 8], [-14, 15], [2, 5], [-4, 1], [1, 2], [1, 0], [1, 1], [0, 1], [1, 1],
-              [2, 5], [-2], [5], X) for rank in range(1, 5)),
+              [2, 5], [-2], [5], X, Y, [1, 1]) for rank in range(1, 5)),
     # "each axis equal or 1" for the sides of each operation: two rows, a row and a number, a number and a row
     completes('rows and numbers', param(0, I16, -9, 9, (4,)) + param(1, I16, 1, 9, (4,)) + const(I16, 5)
               + sum((apply(op, *sides) for op in (ADD, MUL, MAX, IDIV, MOD, CMPLT, CMPNE) for sides in ((0, 1), (0, 2), (2, 1))), []),
@@ -257,6 +257,109 @@ RANKS = [
               [1, 6, GAP, 4], [1, 9, GAP, 4], [9, 6, GAP, 9], [9, 8, GAP, 9], [1, 2, 3, 4], [9, 9, 9, 9], [5, 6, 7, GAP], [9, 9, 9, 9]),
     # "The answer carries the number of gaps in the output node.": more than a byte can count
     completes('300 gaps', param(0, I16, 0, 9, (300,)), [GAP] * 300, [GAP] * 300),
+]
+
+# -------------------------------------------------- the second edition's three
+
+FOUR_CELLS, SIX_CELLS = param(0, I16, -9, 9, (4,)), param(0, I16, -9, 9, (2, 3))
+WITH_GAPS = [1, GAP, 0, GAP, GAP, -9]
+FILLED = [
+    # (02) "T where known, else C"
+    *(binary('FILL', FILL, I16, (SIGNED, SIGNED), [t, c], result)
+      for t, c, result in ((3, 4, 3), (4, 3, 4), (3, GAP, 3), (GAP, 4, 4), (GAP, GAP, GAP), (0, 4, 0), (0, GAP, 0), (GAP, 0, 0), (-9, 9, -9),
+                           (GAP, -9, -9))),
+    *(binary('FILL', FILL, BOOL, (TRUTH, TRUTH), [t, c], result) for t, c, result in ((0, 1, 0), (1, 0, 1), (GAP, 1, 1), (0, GAP, 0), (GAP, GAP, GAP))),
+    *(binary('FILL', FILL, I32, ((I32_LOW, I32_HIGH), (I32_LOW, I32_HIGH)), [t, c], result)
+      for t, c, result in ((I32_LOW, I32_HIGH, I32_LOW), (GAP, I32_LOW, I32_LOW), (I32_HIGH, GAP, I32_HIGH))),
+    binary('FILL', FILL, U8, ((0, 9), (250, 255)), [GAP, 255], 255),
+    # numbers under gaps are not looked at, those of C neither
+    completes('FILL over numbers under gaps', param(0, U8, 3, 5, (4,)) + param(1, U8, 3, 5, (4,)) + apply(FILL, 0, 1),
+              [(4, 0), (-BIG, 0), 5, (3, 0), (5, 0), 3, (BIG - 1, 0), (-BIG, 0)], [GAP, GAP, 5, GAP], [GAP, 3, GAP, GAP], [GAP, 3, 5, GAP]),
+    # (02) "broadcast": "right-aligned; each axis equal or 1; the larger wins"
+    completes('a table filled by a row', SIX_CELLS + param(1, I16, 10, 19, (3,)) + apply(FILL, 0, 1), [*WITH_GAPS, 10, 11, 12],
+              WITH_GAPS, [10, 11, 12], [1, 11, 0, 10, 11, -9]),
+    completes('a row filled by a table', SIX_CELLS + param(1, I16, 10, 19, (3,)) + apply(FILL, 1, 0), [*WITH_GAPS, GAP, 11, GAP],
+              WITH_GAPS, [GAP, 11, GAP], [1, 11, 0, GAP, 11, -9]),
+    completes('FILL broadcast both ways', param(0, I16, 0, 9, (2, 1)) + param(1, I16, 0, 9, (1, 3)) + apply(FILL, 0, 1) + apply(FILL, 1, 0),
+              [7, GAP, 1, GAP, 3],
+              [7, GAP], [1, GAP, 3], [7, 7, 7, 1, GAP, 3], [1, 7, 3, 1, GAP, 3]),
+    completes('a row filled by a number', FOUR_CELLS + const(I16, 5) + apply(FILL, 0, 1), [GAP, -9, 0, GAP], [GAP, -9, 0, GAP], [5], [5, -9, 0, 5]),
+    completes('a number filled by a row', param(0, I16, -9, 9, ()) + param(1, I16, 0, 3, (4,)) + apply(FILL, 0, 1) + apply(FILL, 1, 0),
+              [GAP, 0, GAP, 2, 3],
+              [GAP], [0, GAP, 2, 3], [0, GAP, 2, 3], [0, GAP, 2, 3]),
+    completes('FILL of every two ranks', sum((param(k, I16, 0, 2000, (2, *[1] * k)) for k in range(4)), [])
+              + sum((apply(FILL, *pair[::turn]) for pair in ((1, 0), (2, 0), (2, 1), (3, 0), (3, 1), (3, 2)) for turn in (1, -1)), []),
+              [1, GAP, 10, GAP, 100, GAP, 1000, GAP], [1, GAP], [10, GAP], [100, GAP], [1000, GAP], [10, 10, 1, GAP], [1, 10, 1, GAP], [100, 100, 1, GAP],
+              [1, 100, 1, GAP], [100, 100, 10, GAP], [10, 100, 10, GAP], [1000, 1000, 1, GAP], [1, 1000, 1, GAP],
+              [1000, 1000, 10, GAP], [10, 1000, 10, GAP],
+              [1000, 1000, 100, GAP], [100, 1000, 100, GAP]),
+    # of 2x2x2x2, gaps where the coordinates have an even sum
+    of_sixteen('FILL', [GAP, 1, 2, GAP, 4, GAP, GAP, 7, 8, GAP, GAP, 11, GAP, 13, 14, GAP],
+               [move(FLIP, 0, (1, 0, 0, 0)), apply(FILL, 0, 1), apply(FILL, 1, 0)],
+               [8, GAP, GAP, 11, GAP, 13, 14, GAP, GAP, 1, 2, GAP, 4, GAP, GAP, 7], [8, 1, 2, 11, 4, 13, 14, 7, 8, 1, 2, 11, 4, 13, 14, 7],
+               [8, 1, 2, 11, 4, 13, 14, 7, 8, 1, 2, 11, 4, 13, 14, 7]),
+    # gaps that PAD made are filled
+    completes('padded and filled', param(0, I16, 0, 9, (2,)) + move(PAD, 0, (5,), (1,)) + const(I16, 0) + apply(FILL, 1, 2), [7, 9],
+              [7, 9], [GAP, 7, 9, GAP, GAP], [0], [0, 7, 9, 0, 0]),
+    completes('filled twice', FOUR_CELLS + param(1, I16, -9, 9, (4,)) + param(2, I16, -9, 9, (4,)) + apply(FILL, 0, 1) + apply(FILL, 3, 2),
+              [1, GAP, GAP, GAP, 2, 2, GAP, GAP, 3, 3, 3, GAP], [1, GAP, GAP, GAP], [2, 2, GAP, GAP], [3, 3, 3, GAP], [1, 2, GAP, GAP], [1, 2, 3, GAP]),
+    completes('filled by itself', FOUR_CELLS + apply(FILL, 0, 0), [1, GAP, 0, 4], *[[1, GAP, 0, 4]] * 2),
+]
+KNOWN_CELLS = [
+    # (02) "bool, 1 where the source is known, else 0, never a gap"
+    completes('KNOWN', FOUR_CELLS + apply(KNOWN, 0), [5, GAP, 0, -9], [5, GAP, 0, -9], [1, 0, 1, 1]),
+    completes('KNOWN of gaps', FOUR_CELLS + apply(KNOWN, 0), [GAP] * 4, [GAP] * 4, [0] * 4),
+    completes('KNOWN of bools', param(0, BOOL, 0, 1, (3,)) + apply(KNOWN, 0), [0, 1, GAP], [0, 1, GAP], [1, 1, 0]),
+    completes('KNOWN of a CONST', const(I16, 0) + apply(KNOWN, 0), [], [0], [1]),
+    completes('KNOWN twice', FOUR_CELLS + apply(KNOWN, 0) + apply(KNOWN, 1), [5, GAP, GAP, 0], [5, GAP, GAP, 0], [1, 0, 0, 1], [1, 1, 1, 1]),
+    *(completes(f'KNOWN of rank {rank}', param(0, I16, -9, 9, (2, 1, 3, 1)[:rank]) + apply(KNOWN, 0), cells, cells, flags)
+      for rank, cells, flags in ((0, [GAP], [0]), (1, [GAP, 0], [0, 1]), (2, [7, GAP], [1, 0]), (3, WITH_GAPS, [1, 0, 1, 0, 0, 1]),
+                                 (4, WITH_GAPS, [1, 0, 1, 0, 0, 1]))),
+    completes('KNOWN of what PAD put there', param(0, I16, 0, 9, (2,)) + move(PAD, 0, (5,), (1,)) + apply(KNOWN, 1), [7, GAP],
+              [7, GAP], [GAP, 7, GAP, GAP, GAP], [0, 1, 0, 0, 0]),
+    # the count of known cells, by rows and of all
+    completes('KNOWN, CAST and REDUCE', SIX_CELLS + apply(KNOWN, 0) + node(CAST, {1: 1, 4: I16}) + reduce_node(2, 0, (0, 1)) + reduce_node(2, 0, (1, 1)),
+              WITH_GAPS,
+              WITH_GAPS, [1, 0, 1, 0, 0, 1], [1, 0, 1, 0, 0, 1], [2, 1], [3]),
+    # where known the cell, else a number: what FILL gives
+    completes('KNOWN and WHERE', SIX_CELLS + apply(KNOWN, 0) + const(I16, -1) + apply(WHERE, 1, 0, 2) + apply(FILL, 0, 2), WITH_GAPS,
+              WITH_GAPS, [1, 0, 1, 0, 0, 1], [-1], [1, -1, 0, -1, -1, -9], [1, -1, 0, -1, -1, -9]),
+    completes('KNOWN, AND and OR of two fields', FOUR_CELLS + param(1, I16, -9, 9, (4,)) + apply(KNOWN, 0) + apply(KNOWN, 1) + apply(AND, 2, 3)
+              + apply(OR, 2, 3),
+              [1, GAP, 0, GAP, 1, 1, GAP, GAP], [1, GAP, 0, GAP], [1, 1, GAP, GAP], [1, 0, 1, 0], [1, 1, 0, 0], [1, 0, 0, 0], [1, 1, 1, 0]),
+]
+TWO_ROWS = param(0, I16, 0, 9, (2,)) + param(1, I16, 10, 19, (2,))
+STACKED = [
+    # (02) "number 2 or 3 of sources joined on a new leading axis"
+    completes('STACK of numbers', scalars(I16, SIGNED, SIGNED) + stack(0, 1) + stack(1, 0) + stack(1, 1, 0) + stack(0, 1, 0), [7, GAP],
+              [7], [GAP], [7, GAP], [GAP, 7], [GAP, GAP, 7], [7, GAP, 7]),
+    completes('STACK of two rows', TWO_ROWS + stack(0, 1) + stack(1, 0), [1, GAP, 11, 12], [1, GAP], [11, 12], [1, GAP, 11, 12], [11, 12, 1, GAP]),
+    completes('STACK of three rows', TWO_ROWS + param(2, I16, 20, 29, (2,)) + stack(0, 1, 2) + stack(2, 0, 1) + stack(1, 2, 0), [1, GAP, 11, 12, GAP, 22],
+              [1, GAP], [11, 12], [GAP, 22], [1, GAP, 11, 12, GAP, 22], [GAP, 22, 1, GAP, 11, 12], [11, 12, GAP, 22, 1, GAP]),
+    completes('STACK of the same row three times', TWO_ROWS + stack(1, 1, 1), [1, 2, GAP, 12], [1, 2], [GAP, 12], [GAP, 12, GAP, 12, GAP, 12]),
+    completes('STACK of tables', SIX_CELLS + move(FLIP, 0, (0, 1)) + stack(0, 1) + stack(1, 0, 1), WITH_GAPS, WITH_GAPS, [0, GAP, 1, -9, GAP, GAP],
+              [1, GAP, 0, GAP, GAP, -9, 0, GAP, 1, -9, GAP, GAP],
+              [0, GAP, 1, -9, GAP, GAP, 1, GAP, 0, GAP, GAP, -9, 0, GAP, 1, -9, GAP, GAP]),
+    completes('STACK of rank 3', param(0, I16, 0, 9, (2, 1, 2)) + param(1, I16, 0, 9, (2, 1, 2)) + stack(1, 0) + stack(0, 1, 1),
+              [1, 2, GAP, 4, 5, GAP, 7, 8],
+              [1, 2, GAP, 4], [5, GAP, 7, 8], [5, GAP, 7, 8, 1, 2, GAP, 4], [1, 2, GAP, 4, 5, GAP, 7, 8, 5, GAP, 7, 8]),
+    completes('STACK of bools', param(0, BOOL, 0, 1, (2,)) + param(1, BOOL, 0, 1, (2,)) + stack(0, 1) + stack(1, 1, 0), [0, GAP, 1, 1],
+              [0, GAP], [1, 1], [0, GAP, 1, 1], [1, 1, 1, 1, 0, GAP]),
+    completes('STACK of i32 at its ends', param(0, I32, I32_LOW, I32_HIGH, (2,)) + stack(0, 0), [I32_LOW, I32_HIGH], [I32_LOW, I32_HIGH],
+              [I32_LOW, I32_HIGH, I32_LOW, I32_HIGH]),
+    # (02) "with number 2, word 3 is zero": node 0 is of another type, shape and device
+    completes('STACK of two after another node', param(0, U8, 0, 255, (3,), 9) + param(1, I16, -9, 9, (2,)) + stack(1, 1), [1, 2, 255, -9, GAP],
+              [1, 2, 255], [-9, GAP], [-9, GAP, -9, GAP]),
+    # the new axis is an axis as others are
+    completes('STACK and REDUCE', TWO_ROWS + stack(0, 1) + reduce_node(2, 0, (1, 0)) + reduce_node(2, 1, (0, 1)), [1, GAP, 11, 12], [1, GAP], [11, 12],
+              [1, GAP, 11, 12], [12, GAP], [GAP, 12]),
+    completes('STACK and PERMUTE', TWO_ROWS + stack(0, 1) + move(PERMUTE, 2, (1, 0)), [1, GAP, 11, 12], [1, GAP], [11, 12], [1, GAP, 11, 12],
+              [1, 11, GAP, 12]),
+    completes('STACK of a STACK', scalars(I16, SIGNED, SIGNED) + stack(0, 1) + stack(2, 2) + stack(3, 3, 3), [1, GAP], [1], [GAP], [1, GAP], [1, GAP] * 2,
+              [1, GAP] * 6),
+    completes('STACK of CONSTs, with room left', const(I16, 1) + const(I16, 2) + stack(1, 0, 1), [], [1], [2], [2, 1, 2], more=(2, 3)),
+    completes('STACK, KNOWN and FILL', TWO_ROWS + stack(0, 1) + apply(KNOWN, 2) + apply(FILL, 2, 1), [GAP, GAP, 11, GAP], [GAP, GAP], [11, GAP],
+              [GAP, GAP, 11, GAP], [0, 0, 1, 0], [11, GAP, 11, GAP]),
 ]
 
 # -------------------------------------------------------------------- refusals
@@ -320,12 +423,23 @@ REFUSALS = [
     refused('14 before 15', 14, 0, PAIR, [(1, 2), 1], rooms=(2, 1)),
     refused('14 before 16', 14, 0, PAIR, [6, 1], rooms=(1, 2)),
     refused('1 before 13', 1, 0, PAIR[:16], [1, 1, 1]),
-    refused('2 before 13', 2, 1, PAIR + node(21), [1], rooms=(0, 0)),
+    refused('2 before 13', 2, 1, PAIR + node(UNKNOWN), [1], rooms=(0, 0)),
     refused('11 before 15', 11, 1, PAIR + const(BOOL, 2), [(1, 2), 1]),
     refused('11 of −32768 before 16', 11, 0, param(0, I16, -32768, 32767, (2,)), [-32768, 1]),
     refused('10 of a divisor that the input would not have', 10, 1, PAIR + apply(IDIV, 0, 0), [1, 1]),
     refused('12 before 13', 12, 0, large(*[(LARGE,)] * 4) + const(BOOL, 1), []),
+    # (02) "STACK's number, or a word 3 not zero with number 2, is 7 .., its shapes and rank 8"
+    refused('7 of a STACK of four', 7, 1, PAIR + node(STACK, {5: 4}), [1], rooms=(0, 0)),
+    refused('7 of a word 3 not zero', 7, 1, PAIR + node(STACK, {3: -1, 5: 2}), [1]),
+    refused('8 of a STACK of two shapes', 8, 2, PAIR + const(I16, 1) + stack(0, 1), [1, 1]),
+    refused('8 of a STACK of rank 4', 8, 1, SIXTEEN + stack(0, 0, 0), []),
+    refused('6 of a FILL', 6, 2, PAIR + const(U8, 1) + apply(FILL, 0, 1), [6, 6]),
+    # 14: the parts of a STACK are elements too
+    refused('rooms one short of a STACK', 14, 0, PAIR + stack(0, 0), [1, 1], rooms=(5, 6)),
+    refused('flags room one short of a STACK', 14, 0, PAIR + stack(0, 0), [1, 1], rooms=(6, 5)),
+    refused('16 under a FILL', 16, 1, PAIR + const(I16, 0) + apply(FILL, 0, 1), [GAP, 6]),
+    refused('15 under a KNOWN', 15, 0, PAIR + apply(KNOWN, 0), [(1, 2), GAP]),
     refused('no words', 1, 0, [], []),
 ]
 
-EXAMPLES = [*NUMBERS, *GAPS, *MOVEMENTS, *FOUR_AXES, *RANKS, *REFUSALS]
+EXAMPLES = [*NUMBERS, *GAPS, *MOVEMENTS, *FOUR_AXES, *RANKS, *FILLED, *KNOWN_CELLS, *STACKED, *REFUSALS]

@@ -3,8 +3,8 @@
 from array import array
 from collections import namedtuple
 
-from cases import LARGE, apply, const, move, node, param, reduce_node
-from model import ADD, CAST, EXPAND, FLIP, LOAD, MAX, MUL, PAD, PERMUTE, RESHAPE, SHRINK, WHERE
+from cases import LARGE, apply, const, move, node, param, reduce_node, stack
+from model import ADD, CAST, EXPAND, FILL, FLIP, KNOWN, LOAD, MAX, MUL, PAD, PERMUTE, RESHAPE, SHRINK, WHERE
 
 BOOL, U8, I16, I32 = range(4)
 SIDE = 1024
@@ -152,7 +152,58 @@ def many_nodes():
     yield LargeRun('254 ADDs', table, array('q', [0]), array('B', [1]), nodes)
 
 
+def filled(own, other):
+    """The cells of FILL: the own number where it is known, else the other."""
+    values = array('q', (a if k else b for a, k, b in zip(own[0], own[1], other[0])))
+    return values, array('B', map(int.__or__, own[1], other[1]))
+
+
+def flags_of(cells_of):
+    """The cells of KNOWN."""
+    return cells(cells_of[1])
+
+
+def fills():
+    """1048576 cells filled by a row of 1024, and whether they are known then; a column of 1024 and such a row, each filled by the other."""
+    values, row = array('q', (k * 7919 % 2001 - 1000 for k in range(LARGE))), array('q', range(-512, 512))
+    flags, row_flags = with_gaps(LARGE, 3, 1), with_gaps(SIDE, 5, 4)
+    own, other = cells(values, flags), cells(row, row_flags)
+    result = filled(own, tuple(part * SIDE for part in other))
+    table = param(0, I16, -1000, 1000, (SIDE, SIDE)) + param(1, I16, -512, 511, (SIDE,)) + apply(FILL, 0, 1) + apply(KNOWN, 2)
+    yield LargeRun('FILL by a row, and KNOWN', table, values + row, flags + row_flags, [own, other, result, flags_of(result)])
+    column, column_flags = array('q', range(1, SIDE + 1)), with_gaps(SIDE, 2, 0)
+    first = cells(column, column_flags)
+    spread = tuple(array(part.typecode, (cell for cell in part for _ in range(SIDE))) for part in first)
+    beside = tuple(part * SIDE for part in other)
+    table = param(0, I16, 1, SIDE, (SIDE, 1)) + param(1, I16, -512, 511, (1, SIDE)) + apply(FILL, 0, 1) + apply(FILL, 1, 0)
+    yield LargeRun('FILL of 1024x1 and 1x1024', table, column + row, column_flags + row_flags,
+                   [first, other, filled(spread, beside), filled(beside, spread)])
+
+
+def joined(*parts):
+    return tuple(sum(part[1:], part[0]) for part in zip(*parts))
+
+
+def stacks():
+    """Two of 512x1024 joined, whether that is known, and filled by one of them: 4194304 elements; three of 349525, which make 1048575."""
+    half = LARGE // 2
+    values, flags = array('q', range(LARGE)), with_gaps(LARGE, 7, 3)
+    own = cells(values, flags)
+    parts = [tuple(part[k * half:(k + 1) * half] for part in own) for k in range(2)]
+    turned_round = joined(parts[1], parts[0])
+    table = sum((param(k, I32, 0, LARGE, (half // SIDE, SIDE)) for k in range(2)), []) + stack(1, 0) + apply(KNOWN, 2) + apply(FILL, 2, 0)
+    yield LargeRun('STACK of two of 512x1024', table, values, flags,
+                   [*parts, turned_round, flags_of(turned_round), filled(turned_round, joined(parts[0], parts[0]))])
+    third = LARGE // 3
+    values, flags = array('q', range(3 * third)), with_gaps(3 * third, 11, 0)
+    own = cells(values, flags)
+    parts = [tuple(part[k * third:(k + 1) * third] for part in own) for k in range(3)]
+    table = sum((param(k, I32, 0, LARGE, (third,)) for k in range(3)), []) + stack(2, 0, 1) + stack(0, 1, 2)
+    yield LargeRun('STACK of three of 349525', table, values, flags, [*parts, joined(parts[2], parts[0], parts[1]), own])
+
+
 def large_runs():
-    for make in (flip_add_permute, wheres, copies, turned_over, expands, pads, products, reductions, sixteen_params, many_nodes):
+    for make in (flip_add_permute, wheres, copies, turned_over, expands, pads, products, reductions, fills, stacks,
+                 sixteen_params, many_nodes):
         made = make()
         yield from (made,) if isinstance(made, LargeRun) else made

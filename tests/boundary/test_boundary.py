@@ -8,7 +8,7 @@ import collections
 import faulthandler
 import os
 import sys
-from itertools import combinations_with_replacement
+from itertools import combinations_with_replacement, product
 from random import Random
 
 sys.dont_write_bytecode = True
@@ -24,7 +24,8 @@ from library import Library, declared, exported  # noqa: E402
 # The ends of packed numbers of one to five bytes.
 NUMBER_ENDS = sorted({128 ** k + d for k in range(6) for d in (-1, 0, 1) if 0 <= 128 ** k + d < 2 ** 35})
 WORD_ENDS = [model.word_of(m) for m in NUMBER_ENDS]
-BYTE_ENDS = (0, 1, 2, 20, 21, 127, 128, 129, 148, 254, 255)
+BYTE_ENDS = (0, 1, 2, 3, 20, 21, 23, 24, 127, 128, 129, 148, 254, 255)
+EDITION = bytes(model.SECOND_EDITION)
 
 
 def pattern(room):
@@ -37,7 +38,7 @@ def random_table(rng, nodes):
     """Any operations with any words that a packed plan can hold; no other rule is asked."""
     table = []
     for _ in range(nodes):
-        op = rng.randrange(21)
+        op = rng.randrange(cases.OPERATIONS)
         words = {w: rng.choice(WORD_ENDS) if rng.random() < 0.3 else model.word_of(rng.getrandbits(rng.randint(1, 35)))
                  for w in model.USED_WORDS[op]}
         table += cases.node(op, words)
@@ -65,7 +66,7 @@ def damaged(rng, data):
 def needed(data):
     """The words that a table needs for the bytes' node count; one node's where there is no such count."""
     try:
-        count = model.read_number(data, 0)[0]
+        count = model.read_number(data, model.read_edition(data)[1])[0]
     except model.Refused:
         count = 1
     return model.NODE_WORDS * min(max(count, 1), model.MOST_NODES)
@@ -73,30 +74,36 @@ def needed(data):
 
 def fixed_bytes():
     """Bytes at the ends of each rule, whatever the seed."""
-    every = sum((cases.node(op, {w: (7 * op + w) * (-1) ** w for w in model.USED_WORDS[op]}) for op in range(21)), [])
-    data = cases.pack(every)
     yield from cases.FIXED_BYTES
-    yield from (data[:cut] for cut in range(len(data) + 1))
-    yield from (data[:at] + bytes([end]) + data[at + 1:] for at in range(len(data)) for end in BYTE_ENDS)
+    yield from (data for data, _ in cases.EDITION_BYTES)
+    yield from (bytes([0, second]) + rest for second in range(256) for rest in (b'', bytes.fromhex('011600')))
+    for ops in (range(model.LOAD + 1), (model.CONST, *model.NEW, model.LOAD)):
+        data = cases.pack(sum(map(cases.small_node, ops), []))
+        yield from (data[:cut] for cut in range(len(data) + 1))
+        yield from (data[:at] + bytes([end]) + data[at + 1:] for at in range(len(data)) for end in BYTE_ENDS)
     for number in NUMBER_ENDS:
         count = cases.number_bytes(number)
         padded = count[:-1] + bytes([count[-1] + 128, 0])
         for written in (count, padded, count[:-1], count[:-1] + bytes([count[-1] + 128])):
-            yield written + bytes.fromhex('00040a')
-            yield b'\x01' + written + bytes.fromhex('040a')
-            yield bytes.fromhex('010004') + written
+            for edition, node in ((b'', '00040a'), (EDITION, '1600')):
+                yield edition + written + bytes.fromhex(node)
+                yield edition + b'\x01' + written + bytes.fromhex(node)[1:]
+                yield edition + b'\x01' + bytes.fromhex(node)[:-1] + written
     for nodes in (1, 127, 128, 255, 256, 257):
-        yield cases.pack(cases.const(2, 300) * nodes)
-        yield cases.pack(cases.const(2, 300) * nodes)[:-1]
+        for last in (cases.const(2, 300), cases.apply(model.KNOWN, 0)):
+            data = cases.pack(cases.const(2, 300) * (nodes - 1) + last)
+            yield from (data, data[:-1], EDITION + data)
     for low_or_high in (-2 ** 34, 2 ** 34 - 1):
-        yield cases.pack(cases.node(model.PAD, dict.fromkeys(model.USED_WORDS[model.PAD], low_or_high)) * 256)
+        longest = cases.node(model.PAD, dict.fromkeys(model.USED_WORDS[model.PAD], low_or_high))
+        for last in (longest, cases.node(model.STACK, dict.fromkeys(model.USED_WORDS[model.STACK], low_or_high))):
+            yield from (cases.pack(longest * 255 + last), EDITION + cases.pack(longest * 255 + last))
 
 
 def unpack_inputs(rng, count):
     """Cases, each some (bytes, room): fixed bytes with each room; then random plans, three of four damaged."""
     for data in fixed_bytes():
         yield [(data, room) for room in (needed(data), needed(data) - 1, needed(data) + 5, 0)]
-    yield from ([pair] for pair in cases.ORDERED_BYTES)
+    yield from ([pair] for pair in (*cases.ORDERED_BYTES, *cases.EDITION_BYTES))
     for turn in range(count):
         nodes = rng.choice((1, 1, 2, 3, 5, 8, 13)) if turn % 100 else rng.choice((127, 128, 255, 256))
         data = cases.pack(random_table(rng, nodes))
@@ -121,7 +128,7 @@ def test_unpack(tally, library, rng, count):
         with tally.case(('unpack', inputs[0][0].hex())):
             met.update(unpacked(tally, library, data, room) for data, room in inputs)
     print('unpack answers met:', ', '.join('%d: %d times' % item for item in sorted(met.items())))
-    tally.same('unpack answers met', sorted(met), [0, 14, 20, 21, 22, 23, 24])
+    tally.same('unpack answers met', sorted(met), [0, 14, 20, 21, 22, 23, 24, 26])
 
 
 # ---------------------------------------------------------------- check
@@ -131,13 +138,29 @@ WORD_SWEEP = sorted({*cases.EDGES, *range(-6, 7), *(s * 2 ** k + d for s in (-1,
                      -2 ** 63, 2 ** 63 - 1})
 
 
+# A STACK of two beside the one of three that is drafted.
+STACK_OF_TWO = {3: 0, 5: 2}
+
+
 def swept():
     """Cases, each some (table, room): a valid node of each operation after its sources, one of its words set to each value of the sweep."""
-    for op in range(model.LOAD + 1):
-        table = cases.draft(op, cases.DRAFTS[op][0])
+    for table in (*(cases.draft(op, base) for op, (base, _) in cases.DRAFTS.items()), cases.draft(model.STACK, STACK_OF_TWO)):
         room = 8 * (len(table) // model.NODE_WORDS)
         for word in range(len(table) - model.NODE_WORDS, len(table)):
             yield [(table[:word] + [value] + table[word + 1:], room) for value in WORD_SWEEP]
+
+
+# Words 1 and 2, word 3 and the number of a STACK, each with each, after four PARAMs of which two can be stacked.
+STACK_SOURCES = (-2 ** 63, -1, 0, 1, 2, 3, 4, 2 ** 63 - 1)
+STACK_NUMBERS = (-2 ** 63, -1, 0, 1, 2, 3, 4, 2 ** 32 + 2, 2 ** 32 + 3, 2 ** 63 - 1)
+STACK_PARAMS = cases.OTHER_FIRST + cases.param(3, 2, -3, 3, (3,), 5)
+
+
+def stacked():
+    """Cases, each some (table, room): sources that are one number, one type, one shape and one device or not."""
+    for first, second in product(STACK_SOURCES, repeat=2):
+        yield [(STACK_PARAMS + cases.node(model.STACK, {1: first, 2: second, 3: third, 5: number}), 40)
+               for third, number in product(STACK_SOURCES, STACK_NUMBERS)]
 
 
 def tables_of(seed, scale):
@@ -162,8 +185,9 @@ def changed(rng, table):
 
 
 def check_inputs(rng, scale):
-    """Cases, each some (table, room): the sweep; then each table as it is, and changed, with a room that fits, and one that falls short or is larger."""
+    """Cases, each some (table, room): the sweeps; then each table as it is, and changed, with a room that fits, and one that falls short or is larger."""
     yield from swept()
+    yield from stacked()
     for table in tables_of(rng.randrange(2 ** 32), scale):
         inputs = []
         for plan in (table, changed(rng, table)):
@@ -197,7 +221,7 @@ def packed_inputs(rng, count):
     """Cases, each some bytes: those of an unpack; then each table, or another where it cannot be packed, as it is and damaged."""
     yield from ([data for data, _ in inputs] for inputs in unpack_inputs(rng, count // 2))
     for table in tables_of(rng.randrange(2 ** 32), count / 8000):
-        can = table and len(table) % model.NODE_WORDS == 0 and all(0 <= op < 21 for op in table[::model.NODE_WORDS])
+        can = table and len(table) % model.NODE_WORDS == 0 and all(0 <= op < cases.OPERATIONS for op in table[::model.NODE_WORDS])
         data = cases.pack(table if can else random_table(rng, rng.randint(1, 5)))
         yield [data, damaged(rng, data)]
 
@@ -216,7 +240,7 @@ def test_unpack_check(tally, library, rng, count):
         with tally.case(('unpack_check', inputs[0].hex())):
             met.update(both(tally, library, data) for data in inputs)
     print('unpack_check answers met:', ', '.join('%d: %d times' % item for item in sorted(met.items())))
-    tally.same('unpack_check answers met', sorted(met), [0, 4, 5, 6, 7, 8, 9, 10, 11, 12, 20, 21, 22, 23, 24])
+    tally.same('unpack_check answers met', sorted(met), [0, 4, 5, 6, 7, 8, 9, 10, 11, 12, 20, 21, 22, 23, 24, 26])
 
 
 # ---------------------------------------------------------------- pack
@@ -231,9 +255,9 @@ def byte_pattern(room):
 
 def swept_nodes():
     """Cases, each some tables: a node of each operation after none to two others, one of its words set to each value of the sweep."""
-    for op in range(model.LOAD + 1):
+    for op in range(cases.OPERATIONS):
         for word in range(model.NODE_WORDS):
-            before = cases.small_node((op + word) % 21) * (word % 3)
+            before = cases.small_node((op + word) % cases.OPERATIONS) * (word % 3)
             yield [before + cases.set_node(op, word, value) for value in PACK_SWEEP]
 
 
@@ -242,7 +266,7 @@ def far_words(rng, table):
     table = list(table)
     for _ in range(rng.choice((1, 1, 2))):
         at = rng.randrange(len(table))
-        table[at] = rng.choice((rng.choice(cases.BEYOND), rng.choice(cases.EDGES), 0, -1, 21))
+        table[at] = rng.choice((rng.choice(cases.BEYOND), rng.choice(cases.EDGES), 0, -1, cases.UNKNOWN))
     if rng.random() < 0.1:
         at = rng.randrange(len(table))
         table[at:at + 1] = rng.choice(([], [0, 0]))
@@ -322,6 +346,44 @@ def test_pack(tally, library, rng, count):
     tally.same('pack answers met', sorted(met), [0, 1, 2, 3, 14, 25])
 
 
+# ---------------------------------------------------------------- editions
+
+def other_edition(table):
+    """The table's file with the start of the other edition, and what is due: 26 for a second edition file without a new operation; 24 at the first new
+    operation of a first edition file."""
+    data = cases.pack(table)
+    ops = table[::model.NODE_WORDS]
+    new = [k for k, op in enumerate(ops) if op in model.NEW]
+    if not new:
+        return EDITION + data, (26, 0)
+    before = [model.written_number(len(ops)), *(model.written_node(model.node_words(table, k)) for k in range(new[0]))]
+    return data[len(EDITION):], (24, sum(map(len, before)))
+
+
+def edition_tables(rng, count):
+    """Accepted plans, each operation in turn, and tables of any words."""
+    for turn in range(count):
+        yield cases.make_plan(rng, turn % cases.OPERATIONS, turn % 5).table
+        yield random_table(rng, rng.randint(1, 8))
+
+
+def test_editions(tally, library, rng, count):
+    """"Each plan still has one file": what the writer writes is read back, and is refused as a file of the other edition or of none."""
+    met = collections.Counter()
+    for table in edition_tables(rng, count // 8):
+        with tally.case(('edition', table)):
+            packed_in_rooms(tally, library, table)
+            data = cases.pack(table)
+            other, due = other_edition(table)
+            met[due[0]] += 1
+            fresh = pattern(len(table))
+            for wrong, refusal in ((other, due), (bytes([0, rng.choice((0, 1, 3, rng.randrange(3, 256)))]) + data, (23, 0)), (EDITION + EDITION + data, (23, 0))):
+                tally.same(('edition', wrong.hex()), library.unpack(wrong, fresh), ((*refusal, 0), fresh, True))
+                tally.same(('edition in one call', wrong.hex()), library.unpack_check(wrong), (65536 * refusal[0] + refusal[1], True))
+    print('files of the other edition:', ', '.join('%d: %d times' % item for item in sorted(met.items())))
+    tally.same('both editions met', sorted(met), [24, 26])
+
+
 # ---------------------------------------------------------------- the range of i16
 
 # (02) "The range of i16 becomes −32767..32767, wherever a type's range is asked for.": numbers about its ends, each the product of two.
@@ -336,7 +398,8 @@ def i16_tables():
         yield number, number, cases.const(2, number)
     for low, high in combinations_with_replacement(I16_ENDS, 2):
         kept = [cases.const(2, 1), cases.const(2, -1), cases.const(0, 1), *(cases.apply(model.IDIV, 0, k) for k in (1, 2)), cases.apply(model.MAX, 0, 0),
-                cases.apply(model.WHERE, 3, 0, 0), cases.reduce_node(0, 1, (1,)), cases.move(model.FLIP, 0, (1,)), cases.load(0, 1)]
+                cases.apply(model.WHERE, 3, 0, 0), cases.reduce_node(0, 1, (1,)), cases.move(model.FLIP, 0, (1,)), cases.load(0, 1),
+                cases.apply(model.FILL, 0, 0), cases.stack(0, 0)]
         yield low, high, sum(kept, cases.param(0, 2, low, high, (2,)))
         yield low, high, cases.param(0, 3, low, high, ()) + cases.node(model.CAST, {1: 0, 4: 2})
         halves = (low // 2, high // 2), (low - low // 2, high - high // 2)
@@ -371,6 +434,7 @@ def main():
     tally.same('the calls that the library exports', exported(), TESTED)
     for test in TESTS.values():
         test(tally, library, rng, count)
+    test_editions(tally, library, rng, count)
     test_i16(tally, library)
     tally.finish(library.made)
 

@@ -10,7 +10,7 @@ import subprocess
 import sys
 from random import Random
 
-from test_boundary import Cases, cases, damaged, fixed_bytes, model
+from test_boundary import EDITION, Cases, cases, damaged, fixed_bytes, model
 
 LIST = os.path.join(os.path.dirname(os.path.abspath(__file__)), '..', '..', 'build', 'list')
 LIMIT = 12288
@@ -18,6 +18,10 @@ LIMIT = 12288
 # 01: "For bytes 01 00 04 0A it writes exactly"
 EXAMPLE = bytes.fromhex('0100040a')
 EXAMPLE_TEXT = b'node op dtype device low high shape\n0 0 2 0 5 5 -\naccepted 1\n'
+# 02: "A second edition file starts with bytes 00 02, then count and nodes as before"; "26 for a second edition file with no new operation"
+SECOND = bytes.fromhex('000204 00040a 150000 1600 1700000006')
+SECOND_TEXT = b'node op dtype device low high shape\n0 0 2 0 5 5 -\n1 21 2 0 5 5 -\n2 22 0 0 0 1 -\n3 23 2 0 5 5 3\naccepted 4\n'
+NO_NEW = EDITION + EXAMPLE
 
 
 def written(data):
@@ -41,7 +45,7 @@ def longest_listing():
 
 def around_the_limit():
     """Plans with bytes after them, up to, at and past what is read; and numbers that do not end before it."""
-    for data in (EXAMPLE, longest_plan(), longest_listing(), cases.pack(cases.const(2, -300) * 256)):
+    for data in (EXAMPLE, SECOND, NO_NEW, longest_plan(), EDITION + longest_plan(), longest_listing(), cases.pack(cases.const(2, -300) * 256)):
         for length in (len(data), len(data) + 1, LIMIT - 1, LIMIT, LIMIT + 1, 2 * LIMIT, 70000):
             yield data + bytes(max(0, length - len(data)))
             yield data + b'\xff' * max(0, length - len(data))
@@ -63,6 +67,8 @@ def main():
     rng = Random(int(sys.argv[2]) if len(sys.argv) > 2 else 7)
     tally, met, shapes = Cases(), collections.Counter(), collections.Counter()
     tally.same('the example of 01', written(EXAMPLE), (0, b'', EXAMPLE_TEXT))
+    tally.same('a second edition file', written(SECOND), (0, b'', SECOND_TEXT))
+    tally.same('a second edition file with no new operation', written(NO_NEW), (0, b'', b'refused 26 at 0\n'))
     tally.same('the longest plan', len(longest_plan()), 11778)
     for data in inputs(rng, count):
         text = model.listing(data)
@@ -71,7 +77,7 @@ def main():
         tally.same((len(data), data[:40].hex()), written(data), (0, b'', text))
     print('answers met:', ', '.join('%s: %d times' % (number.decode(), n) for number, n in sorted(met.items(), key=lambda m: int(m[0]))))
     tally.same('shapes of every rank are listed', sorted(shapes), [0, 1, 2, 3])
-    tally.same('refusals that unpacking gives are met', {b'20', b'21', b'22', b'23', b'24'} - set(met), set())
+    tally.same('refusals that unpacking gives are met', {b'20', b'21', b'22', b'23', b'24', b'26'} - set(met), set())
     tally.finish()
 
 

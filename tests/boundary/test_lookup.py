@@ -16,10 +16,11 @@ from test_boundary import Cases, Library, changed, model, tables_of
 
 import lookup_examples
 import run_cases
-from cases import const, move, param
+from cases import OPERATIONS, const, move, param
 from model import FLIP, LOAD, MOST_NODES, PERMUTE, SHRINK
 
 FOLLOWED = {*range(PERMUTE, SHRINK + 1), LOAD}
+STOPPING = {*range(OPERATIONS)} - FOLLOWED
 NOT_THERE = (2 ** 64 - 1, 2 ** 63, 2 ** 32, 2 ** 20, 256, 255)
 REPLIES = ((0, 1), (0, 2), *((number, 0) for number in (*range(1, 13), 17)))
 
@@ -29,6 +30,7 @@ class Met:
 
     def __init__(self):
         self.replies, self.operations, self.cells, self.longest = collections.Counter(), collections.Counter(), collections.Counter(), 0
+        self.stops, self.moved_stops = collections.Counter(), collections.Counter()
 
 
 class Compared:
@@ -89,6 +91,8 @@ def test_run(compared, rng, run, most):
         test_cells(compared, run, records, place, reply, cells)
         passed = list(steps(run.table, place[0]))
         compared.met.operations.update(passed)
+        if reply[2] == 1:
+            (compared.met.moved_stops if passed else compared.met.stops)[run.table[17 * reply[3]]] += 1
         compared.met.longest = max(compared.met.longest, len(passed))
     node = rng.randrange(len(records))
     past = prod(records[node].extents)
@@ -128,6 +132,8 @@ def test_met(tally, met, count):
     tally.same('lookups enough', sum(met.replies.values()) >= count, True)
     tally.same('replies met', sorted(set(REPLIES) ^ set(met.replies)), [])
     tally.same('operations followed', sorted(met.operations), sorted(FOLLOWED))
+    tally.same('operations that stop a lookup', sorted(met.stops), sorted(STOPPING))
+    tally.same('operations that stop a lookup under movements', sorted(met.moved_stops), sorted(STOPPING))
     tally.same('places of gaps and of numbers, and gaps', sorted(met.cells), [(1, 0), (1, 1), (2, 0)])
     tally.same('some chain is long', met.longest >= 8, True)
 

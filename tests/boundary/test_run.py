@@ -20,7 +20,8 @@ import run_large
 from cases import BIG, apply, const, node
 
 EXTREMES = {-BIG, BIG - 1}
-OPERATIONS_AND_RANKS = {(model.CONST, 0), *((op, rank) for op in range(1, 21) for rank in range(5))}
+# A CONST has no axes, a STACK one at least.
+OPERATIONS_AND_RANKS = {(model.CONST, 0), *((op, rank) for op in range(1, cases.OPERATIONS) for rank in range(5))} - {(model.STACK, 0)}
 
 
 class Met:
@@ -83,7 +84,7 @@ class Compared:
 
 def described(table):
     """The table's used words, node by node."""
-    if len(table) % 17 or not all(0 <= op <= 20 for op in table[::17]):
+    if len(table) % 17 or not all(0 <= op < cases.OPERATIONS for op in table[::17]):
         return table
     return [[table[first], *(table[first + word] for word in model.USED_WORDS[table[first]])] for first in range(0, len(table), 17)]
 
@@ -263,7 +264,7 @@ def test_met(tally, met, count):
     print('run answers met:', ', '.join('%d: %d times' % item for item in sorted(met.answers.items())))
     print('%d plans completed, %d of them again with other numbers under gaps; longest chain %d; most nodes %d; most binary operations and WHEREs in a row %d'
           % (met.plans, met.again, met.deepest, met.most_nodes, met.in_a_row))
-    print('each operation in', ', '.join('%d: %d' % (op, sum(n for (o, _), n in met.cells.items() if o == op)) for op in range(21)), 'nodes')
+    print('each operation in', ', '.join('%d: %d' % (op, sum(n for (o, _), n in met.cells.items() if o == op)) for op in range(cases.OPERATIONS)), 'nodes')
     tally.same('plans enough', met.plans >= count, True)
     tally.same('run answers met', sorted(met.answers), [*range(17)])
     tally.same('operations and ranks met', sorted(OPERATIONS_AND_RANKS - set(met.cells)), [])

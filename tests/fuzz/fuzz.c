@@ -19,7 +19,7 @@
 #include <unistd.h>
 
 enum { NODE = 17, RECORD = 8, MOST_NODES = 256, MOST_WORDS = NODE * (MOST_NODES + 2), MOST_CELLS = 1 << 15, MOST_BYTES = 13000 };
-enum { PARAM = 1, PERMUTE = 2, RESHAPE = 4, EXPAND = 5, PAD = 6, SHRINK = 7, IDIV = 12, REDUCE = 19, LOAD = 20, OPERATIONS = 21 };
+enum { PARAM = 1, PERMUTE = 2, RESHAPE = 4, EXPAND = 5, PAD = 6, SHRINK = 7, IDIV = 12, REDUCE = 19, LOAD = 20, FILL = 21, KNOWN = 22, STACK = 23, OPERATIONS = 24 };
 enum { BOOL, U8, I16, I32 };
 /* The ends of the words that a packed plan can hold. */
 #define LEAST_WORD (-17179869184)
@@ -29,13 +29,13 @@ static unsigned long turn, seed, completed;
 
 /* ---- cases */
 
-enum { LEAST_TURNS = 20000, ANSWERS = 26, MOST_TOLD = 20 };
+enum { LEAST_TURNS = 20000, ANSWERS = 27, MOST_TOLD = 20 };
 enum { UNPACK, CHECK, UNPACK_CHECK, RUN, LOOKUP, PACK, EXPORTS };
 static const char *const exports[EXPORTS] = {"lup_unpack", "lup_check", "lup_unpack_check", "lup_run", "lup_lookup", "lup_pack"};
 
 /* What is given to which export. */
 enum {
-    PACKED, PACKED_NO_ROOM, SPOILT, FAULTY_PACKED, CODE_PACKED, CODE_SPOILT, CODE_FAULTY,
+    PACKED, PACKED_NO_ROOM, SPOILT, OTHER_EDITION, FAULTY_PACKED, CODE_PACKED, CODE_SPOILT, CODE_EDITION, CODE_FAULTY,
     GROWN, UNPACKED, PLAN, PLAN_NO_ROOM, WORDS, FAULTY, NO_NODES,
     GOOD, OTHER_VALUES, OTHER_FLAGS, NO_VALUE_ROOM, NO_FLAG_ROOM, BAD_FLAG, BAD_NUMBER, RUN_WORDS, RUN_FAULTY,
     FOLLOWED, NOT_FOLLOWED, NO_NODE, NO_ELEMENT, LOOKUP_WORDS, LOOKUP_FAULTY,
@@ -50,9 +50,11 @@ static kind kinds[KINDS] = {
     [PACKED] = {UNPACK, "a packed plan, room for it", 0, 0},
     [PACKED_NO_ROOM] = {UNPACK, "a packed plan, too little room", 0, 0},
     [SPOILT] = {UNPACK, "a packed plan with bytes changed or taken out", 0, 0},
+    [OTHER_EDITION] = {UNPACK, "a packed plan as a file of another edition", 0, 0},
     [FAULTY_PACKED] = {UNPACK, "a packed plan that breaks rules or is too large", 0, 0},
     [CODE_PACKED] = {UNPACK_CHECK, "a packed plan", 0, 0},
     [CODE_SPOILT] = {UNPACK_CHECK, "a packed plan with bytes changed or taken out", 0, 0},
+    [CODE_EDITION] = {UNPACK_CHECK, "a packed plan as a file of another edition", 0, 0},
     [CODE_FAULTY] = {UNPACK_CHECK, "a packed plan that breaks rules or is too large", 0, 0},
     [GROWN] = {CHECK, "an accepted plan with one node more", 0, 0},
     [UNPACKED] = {CHECK, "a plan that was unpacked", 0, 0},
@@ -91,9 +93,9 @@ static kind kinds[KINDS] = {
  * unpack, 1, 2 and 3 cannot be told: node count and operations are in order, and words that are not used are 0. */
 #define BITS(from, to) ((2u << (to)) - (1u << (from)))
 static const uint32_t possible[EXPORTS] = {
-    [UNPACK] = BITS(0, 0) | BITS(14, 14) | BITS(20, 24),
+    [UNPACK] = BITS(0, 0) | BITS(14, 14) | BITS(20, 24) | BITS(26, 26),
     [CHECK] = BITS(0, 12) | BITS(14, 14),
-    [UNPACK_CHECK] = BITS(0, 0) | BITS(4, 12) | BITS(20, 24),
+    [UNPACK_CHECK] = BITS(0, 0) | BITS(4, 12) | BITS(20, 24) | BITS(26, 26),
     [RUN] = BITS(0, 16),
     [LOOKUP] = BITS(0, 12) | BITS(17, 17),
     [PACK] = BITS(0, 3) | BITS(14, 14) | BITS(25, 25),
@@ -161,7 +163,8 @@ static size_t below(size_t n) { return any() % n; }
 static int one_in(size_t n) { return below(n) == 0; }
 
 static int64_t edge(void) {
-    static const int64_t edges[] = {0, 1, -1, 2, 3, 4, 5, 15, 16, 20, 21, 127, 128, 255, 256, 32767, 32768, -32767, -32768, -32769, 1048576, 1048577, 4194304, 2147483647, 2147483648,
+    static const int64_t edges[] = {0, 1, -1, 2, 3, 4, 5, 15, 16, LOAD, FILL, STACK, OPERATIONS, 127, 128, 255, 256,
+                                    32767, 32768, -32767, -32768, -32769, 1048576, 1048577, 4194304, 2147483647, 2147483648,
                                     -2147483648, -2147483649, (int64_t)1 << 32, LEAST_WORD, LEAST_WORD - 1, GREATEST_WORD, GREATEST_WORD + 1,
                                     INT64_MAX, INT64_MIN, INT64_MAX - 1, INT64_MIN + 1};
     return one_in(4) ? (int64_t)any() : edges[below(sizeof edges / sizeof *edges)];
@@ -248,12 +251,34 @@ static void param_words(int64_t *w) {
     for (size_t k = 0, rank = below(5); k < rank; k++) w[9 + k] = one_in(20) ? 60 : 1 + (int64_t)below(4);
 }
 
+/* A node of the plan with the type and the extents of that one. */
+static int64_t alike(int64_t node) {
+    const int64_t *own = records + RECORD * (size_t)node;
+    for (int tries = 0; tries < 8; tries++) {
+        size_t other = below(nodes);
+        const int64_t *r = records + RECORD * other;
+        if (r[0] == own[0] && !memcmp(r + 4, own + 4, 4 * sizeof *r)) return (int64_t)other;
+    }
+    return node;
+}
+
+/* The sources of FILL, KNOWN and STACK, and the number of STACK. */
+static void new_words(int64_t *w) {
+    w[1] = (int64_t)below(nodes);
+    if (w[0] == FILL) w[2] = one_in(2) ? alike(w[1]) : (int64_t)below(nodes);
+    if (w[0] != STACK) return;
+    w[2] = one_in(8) ? (int64_t)below(nodes) : alike(w[1]);
+    w[5] = 2 + (int64_t)below(2);
+    if (w[5] == 3) w[3] = one_in(8) ? (int64_t)below(nodes) : alike(w[1]);
+}
+
 /* A node that may be accepted after those of the plan. */
 static void node_words(int64_t *w) {
     memset(w, 0, NODE * sizeof *w);
     w[0] = nodes && !one_in(6) ? (int64_t)below(OPERATIONS) : (int64_t)below(2);
-    if (w[0] == PARAM) {
-        param_words(w);
+    if (w[0] == PARAM || w[0] > LOAD) {
+        if (w[0] == PARAM) param_words(w);
+        else new_words(w);
         return;
     }
     if (w[0] == 0 || w[0] == 8) w[4] = (int64_t)below(4);
@@ -285,7 +310,8 @@ static void grow(size_t most) {
 /* ---- packed plans */
 
 static uint32_t used(int64_t op) {
-    static const uint32_t masks[OPERATIONS] = {0x30, 0x1ff0, 0x1e02, 0x1e02, 0x1e02, 0x1e02, 0x1fe02, 0x1fe02, 0x12, 6, 6, 6, 6, 6, 6, 6, 6, 6, 14, 0x1e22, 0x42};
+    static const uint32_t masks[OPERATIONS] = {0x30, 0x1ff0, 0x1e02, 0x1e02, 0x1e02, 0x1e02, 0x1fe02, 0x1fe02, 0x12, 6, 6, 6, 6, 6, 6, 6, 6, 6, 14, 0x1e22, 0x42,
+                                                6, 2, 0x2e};
     return masks[op];
 }
 
@@ -296,8 +322,20 @@ static size_t number(uint8_t *to, uint64_t n) {
     return k;
 }
 
+static int holds_new(const int64_t *words, size_t count) {
+    for (size_t i = 0; i < count; i++)
+        if (words[NODE * i] > LOAD) return 1;
+    return 0;
+}
+
+/* What a second edition file starts with. */
+static const uint8_t edition[2] = {0, 2};
+
+/* The file of words that can be packed, of the second edition where it holds a new operation. */
 static size_t pack(uint8_t *to, const int64_t *words, size_t count) {
-    size_t n = number(to, count);
+    size_t n = holds_new(words, count) ? sizeof edition : 0;
+    memcpy(to, edition, n);
+    n += number(to + n, count);
     for (size_t i = 0; i < count; i++) {
         const int64_t *w = words + NODE * i;
         n += number(to + n, (uint64_t)w[0]);
@@ -336,7 +374,10 @@ static uint64_t next_number(const uint8_t *bytes, size_t n, size_t *at, lup_answ
 /* What an unpacking has to answer, with so many words of room. */
 static lup_answer unpacking_due(const uint8_t *bytes, size_t n, size_t room) {
     size_t at = 0;
+    int second = n > 0 && bytes[0] == edition[0], fresh = 0;
     lup_answer due;
+    if (second && (n < sizeof edition || bytes[1] != edition[1])) return (lup_answer){23, 0, 0};
+    at = second ? sizeof edition : 0;
     uint64_t count = next_number(bytes, n, &at, &due);
     if (due.number) return due;
     if (count - 1 >= MOST_NODES) return (lup_answer){23, 0, 0};
@@ -344,12 +385,14 @@ static lup_answer unpacking_due(const uint8_t *bytes, size_t n, size_t room) {
     for (uint64_t k = 0; k < count; k++) {
         size_t first = at;
         uint64_t op = next_number(bytes, n, &at, &due);
-        if (due.number == 0 && op >= OPERATIONS) return (lup_answer){24, first, 0};
+        if (due.number == 0 && op > (second ? STACK : LOAD)) return (lup_answer){24, first, 0};
+        fresh |= op > LOAD;
         for (int w = 1; due.number == 0 && w < NODE; w++)
             if (used((int64_t)op) >> w & 1) next_number(bytes, n, &at, &due);
         if (due.number) return due;
     }
-    return at < n ? (lup_answer){22, at, 0} : (lup_answer){0, 0, count};
+    if (at < n) return (lup_answer){22, at, 0};
+    return second && !fresh ? (lup_answer){26, 0, 0} : (lup_answer){0, 0, count};
 }
 
 static int no_nodes(size_t n) { return n % NODE || n == 0 || n > NODE * MOST_NODES; }
@@ -434,6 +477,27 @@ static void add_quotient(uint32_t rules) {
     int64_t *w = add_node((int64_t[NODE]){IDIV, first, first + 1});
     if (breaks(rules, 2)) w[0] = one_in(2) ? OPERATIONS : -1;
     if (breaks(rules, 3)) w[3 + below(14)] = 1;
+    if (breaks(rules, 4)) w[1 + below(2)] = one_in(2) ? -1 : first + 2;
+}
+
+static const uint32_t stack_rules = BITS(2, 4) | BITS(6, 9);
+
+/* A STACK of two PARAMs that breaks these rules; 7 by its number or by a word 3 that is not zero, 8 by their shapes or by their rank. The PARAMs
+ * break none. */
+static void add_stack(uint32_t rules) {
+    static const int64_t numbers[] = {0, 1, 4, -1, LEAST_WORD, GREATEST_WORD};
+    int64_t first = (int64_t)faulty_nodes, slot = (int64_t)params, number = 2 + (int64_t)below(2);
+    int deep = breaks(rules, 8) && one_in(2), by_number = one_in(2);
+    for (int64_t k = 0; k < 2; k++) {
+        int64_t *source = add_node((int64_t[NODE]){PARAM, [4] = k && breaks(rules, 6) ? I16 : I32, slot + k, k && breaks(rules, 9) ? 2 : 1, -9, 9, 2});
+        if (deep) source[10] = source[11] = source[12] = 1;
+        if (k && breaks(rules, 8) && !deep) source[9] = 3;
+    }
+    int64_t *w = add_node((int64_t[NODE]){STACK, first, first + 1, number == 3 ? first : 0, [5] = number});
+    if (breaks(rules, 7) && by_number) w[5] = numbers[below(sizeof numbers / sizeof *numbers)];
+    if (breaks(rules, 7) && !by_number) w[3] = one_in(2) ? first + 1 : LEAST_WORD, w[5] = 2;
+    if (breaks(rules, 2)) w[0] = one_in(2) ? OPERATIONS : -1;
+    if (breaks(rules, 3)) w[one_in(6) ? 4 : 6 + below(11)] = 1;
     if (breaks(rules, 4)) w[1 + below(2)] = one_in(2) ? -1 : first + 2;
 }
 
@@ -607,9 +671,35 @@ static void cells_hold(uint64_t gaps) {
     expect(stays(&out_values, 8 * at) && stays(&out_flags, at), "places past what it writes");
 }
 
+/* Where a node's cells start. */
+static size_t start_of(size_t node) {
+    size_t n = 0;
+    for (size_t k = 0; k < node; k++) n += count_of(k);
+    return n;
+}
+
+static int same_cell(size_t a, size_t b) { return out_flags.at[a] == out_flags.at[b] && ((int64_t *)out_values.at)[a] == ((int64_t *)out_values.at)[b]; }
+
+/* What a completed run has written for KNOWN, for STACK, and for FILL of two sources of one shape. */
+static void new_cells_hold(size_t node) {
+    const int64_t *w = plan + NODE * node;
+    size_t at = start_of(node), all = count_of(node), count = count_of((size_t)w[1]);
+    int known_right = 1, parts_right = 1, filled_right = 1;
+    int one_shape = w[0] == FILL && !memcmp(records + RECORD * w[1] + 4, records + RECORD * w[2] + 4, 4 * sizeof *records);
+    for (size_t k = 0; k < all; k++) {
+        size_t from = start_of((size_t)w[w[0] == STACK ? 1 + k / count : 1]) + k % count;
+        if (w[0] == KNOWN) known_right &= out_flags.at[at + k] == 1 && ((int64_t *)out_values.at)[at + k] == out_flags.at[from];
+        if (w[0] == STACK) parts_right &= same_cell(at + k, from);
+        if (one_shape) filled_right &= same_cell(at + k, out_flags.at[from] ? from : start_of((size_t)w[2]) + k);
+    }
+    expect(known_right, "KNOWN: 1 where its source is known, else 0");
+    expect(parts_right, "STACK: its sources one after another");
+    expect(filled_right, "FILL: the first source where it is known, else the second");
+}
+
 /* A lookup of an element against the cells of a completed run. */
 static void lookup_turn(size_t n) {
-    size_t node = below(nodes + 1), element = below(nodes > node ? count_of(node) + 1 : 9), start = 0, from = 0;
+    size_t node = below(nodes + 1), element = below(nodes > node ? count_of(node) + 1 : 9);
     int64_t op = node < nodes ? plan[NODE * node] : 0;
     int followed = (op >= PERMUTE && op <= SHRINK) || op == LOAD;
     lay(&table, plan, 8 * n);
@@ -624,14 +714,10 @@ static void lookup_turn(size_t n) {
     expect(f.number == 0 && f.place == 0 && (f.found == 2 || place), "a place that is there, or a gap");
     if (under_way == NOT_FOLLOWED) expect(f.found == 1 && f.node == node && f.element == element, "itself");
     if (f.found == 1 && f.node > node) return;
-    for (size_t k = 0; k < node; k++) start += count_of(k);
-    for (size_t k = 0; k < f.node; k++) from += count_of(k);
-    const int64_t *v = (int64_t *)out_values.at;
-    start += element;
-    from += f.element;
+    size_t here = start_of(node) + element;
     gaps_found += f.found == 2;
-    if (f.found == 2) expect(out_flags.at[start] == 0, "a gap where it finds one");
-    else expect(v[start] == v[from] && out_flags.at[start] == out_flags.at[from], "the same cell");
+    if (f.found == 2) expect(out_flags.at[here] == 0, "a gap where it finds one");
+    else expect(same_cell(here, start_of(f.node) + f.element), "the same cell");
 }
 
 static lup_answer run(size_t n, size_t nvalues, size_t nflags, size_t room, size_t flag_room) {
@@ -667,6 +753,8 @@ static void run_turn(void) {
     completed++;
     for (size_t k = 0; k < nodes; k++) operations[plan[NODE * k]]++;
     cells_hold(a.count);
+    for (size_t k = 0; k < nodes; k++)
+        if (plan[NODE * k] > LOAD) new_cells_hold(k);
     for (int k = 0; k < 4; k++) lookup_turn(NODE * nodes);
 }
 
@@ -694,14 +782,15 @@ static void wild_turn(const int64_t *words, size_t n, lup_answer check, int run_
  * none is broken, and nothing that comes after. */
 static void faulty_turn(void) {
     static uint8_t bytes[MOST_BYTES];
+    const struct { uint32_t rules; void (*add)(uint32_t rules); } ways[] = {
+        {param_rules, add_param}, {quotient_rules, add_quotient}, {stack_rules, add_stack}};
     if (nodes > MOST_NODES - 10 || params > 14) return;
-    int quotient = one_in(2);
-    uint32_t rules = (quotient ? quotient_rules : param_rules) & (uint32_t)(any() & any());
+    size_t way = below(sizeof ways / sizeof *ways);
+    uint32_t rules = ways[way].rules & (uint32_t)(any() & any());
     memcpy(faulty, plan, 8 * NODE * nodes);
     faulty_nodes = nodes;
     if (!rules || one_in(2)) add_large();
-    if (quotient) add_quotient(rules);
-    else add_param(rules);
+    ways[way].add(rules);
     lup_answer due = {12, 0, 0};
     for (unsigned rule = 11; rule > 1; rule--)
         if (breaks(rules, rule)) due = (lup_answer){rule, faulty_nodes - 1, 0};
@@ -716,6 +805,21 @@ static void faulty_turn(void) {
     expect(code_turn(bytes, n, CODE_FAULTY) == 65536 * due.number + due.place, "the least rule that is broken, at the last node, else 12");
 }
 
+/* The plan's file with the start of the other edition, or with the number of no edition: 24 for a first edition file with a new operation, 26 for a
+ * second edition file without one, 23. */
+static void edition_turn(const uint8_t *bytes, size_t n) {
+    static uint8_t other[MOST_BYTES];
+    size_t start = bytes[0] == edition[0] ? sizeof edition : 0, head = one_in(2) ? sizeof edition : 0;
+    uint8_t second = (uint8_t)any();
+    if (head == start) head = sizeof edition, second = second == edition[1] ? 3 : second;
+    else second = edition[1];
+    memcpy(other, (uint8_t[]){edition[0], second}, head);
+    memcpy(other + head, bytes + start, n - start);
+    unpack_turn(other, head + n - start, OTHER_EDITION);
+    uint64_t due = second != edition[1] ? 23 : head ? 26 : 24;
+    expect(code_turn(other, head + n - start, CODE_EDITION) >> 16 == due, "the refusal of its edition");
+}
+
 static void one_turn(void) {
     static uint8_t bytes[MOST_BYTES];
     static int64_t words[MOST_WORDS];
@@ -724,6 +828,7 @@ static void one_turn(void) {
     size_t n = pack(bytes, plan, nodes);
     unpack_turn(bytes, n, PACKED);
     expect(code_turn(bytes, n, CODE_PACKED) == nodes, "the number of nodes");
+    edition_turn(bytes, n);
     n = spoil(bytes, n);
     unpack_turn(bytes, n, SPOILT);
     code_turn(bytes, n, CODE_SPOILT);

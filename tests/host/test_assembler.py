@@ -45,6 +45,9 @@ LINES = (
     *((f'{name} w w', apply(op, 0, 0)) for op, name in enumerate('add mul max idiv mod cmplt cmpne and or'.split(), model.ADD)),
     ('where w w w', apply(model.WHERE, 0, 0, 0)), ('sum w 0x1', reduce_node(0, 0, (0, 1))), ('greatest w 1x1', reduce_node(0, 1, (1, 1))),
     ('load w device 3', node(model.LOAD, {1: 0, 6: 3})), ('node 6 1=0 9=5 13=-1', node(6, {1: 0, 9: 5, 13: -1})), ('node 20', node(20)),
+    ('fill w w', apply(model.FILL, 0, 0)), ('known w', apply(model.KNOWN, 0)), ('stack w w', node(model.STACK, {1: 0, 2: 0, 5: 2})),
+    ('stack w w w', node(model.STACK, {1: 0, 2: 0, 3: 0, 5: 3})), ('node 23', node(23)), ('node 23 3=1 5=2', node(23, {3: 1, 5: 2})),
+    ('node 23 1=0 2=0 3=1 5=-3', node(23, {3: 1, 5: -3})), ('node 21 2=-1', node(21, {2: -1})), ('node 22 1=1', node(22, {1: 1})),
 )
 W, V = 'w = param i16 0..5 3x4 device 1\n', 'v = const i16 5\n'
 # a row that is not of its source's rank: shorter, then longer
@@ -61,7 +64,8 @@ RANKED = (
     ('flip w 0x1', 2), ('reshape w 12', 1), ('reshape w 2x2x3x1', 4), ('expand w 3x4', 2), ('pad w 5x5 at 1x1', 2),
     ('shrink w 2x2 at 0x0', 2), ('cast w i32', 2), ('add v w', 2), ('add w v', 2), ('add v v', 0), ('where v v w', 2),
     ('where w v v', 2), ('sum w 1x1', 2), ('greatest w 0x0', 2), ('load w device 3', 2), ('load v device 3', 0),
-    ('node 20 1=0', 2), ('node 4 1=0 9=12', 1))
+    ('node 20 1=0', 2), ('node 4 1=0 9=12', 1), ('fill w v', 2), ('fill v w', 2), ('fill v v', 0), ('known w', 2), ('known v', 0),
+    ('stack w w', 3), ('stack w w w', 3), ('stack v v', 1), ('stack v v v', 1), ('node 23 1=1 2=1 3=0 5=4', 1), ('node 23 1=1 2=1 3=0 5=3', 3))
 # a text, and what the message says of it
 WRONG = (
     *((f'{W}v = {line}', f"line 2: '{row}' is a row of rank {rank}, and the source has rank 2")
@@ -81,8 +85,14 @@ WRONG = (
     ('w = load w device 1', "no node before this one is called 'w'"), ('w = const u8 1\nw = const u8 2', "line 2: 'w' is the name of another node"),
     ('w = param i16 5 3x4 device 1', "'5' are no limits"), ('w = param i16 0..5 3x4', "'device' is missing"), ('w = param i16 0..5 3x4 on 1', "'device' is wanted, not 'on'"),
     ('w = param i16 0..5 1x1x1x1x1 device 1', 'more than four axes'), ('w = param i16 0..5 3xx4 device 1', "'' is no whole number"),
-    ('w = const u8 1\nv = pad w - to -', "'at' is wanted, not 'to'"), ('w = node 21', 'operation 21 cannot be packed'), ('w = node 0 1=2', 'operation 0 has the words 4, 5'),
+    ('w = const u8 1\nv = pad w - to -', "'at' is wanted, not 'to'"), ('w = node 24', 'operation 24 cannot be packed: 0 to 23 can'), ('w = node 0 1=2', 'operation 0 has the words 4, 5'),
     ('w = node 0 4', 'operation 0 has the words 4, 5'), (f'w = const i32 {2 ** 34}', 'cannot be packed'), ('w = const u8 1\n' + ''.join(f'v{k} = const u8 1\n' for k in range(256)), 'at most 256 nodes'),
+    *((f'{W}v = {line}', f'line 2: {message}') for line, message in (
+        ('fill', 'a source is missing'), ('fill w', 'a source is missing'), ('fill w w w', "'w' is left over"), ('fill w 3', "no node before this one is called '3'"),
+        ('known', 'a source is missing'), ('known w w', "'w' is left over"), ('stack', 'a source is missing'), ('stack w', 'a source is missing'),
+        ('stack w w w w', "'w' is left over"), ('stack w w 2', "no node before this one is called '2'"), ('stack w w v', "no node before this one is called 'v'"),
+        ('stack w w at 0', "no node before this one is called 'at'"), ('node 21 3=0', "'3=0': operation 21 has the words 1, 2"),
+        ('node 22 2=0', "'2=0': operation 22 has the words 1"), ('node 23 4=0', "'4=0': operation 23 has the words 1, 2, 3, 5"))),
     ('w w = const u8 1', 'a line is'), ('w = const u8 1 # five\nv = const u8 x', "line 2: 'x' is no whole number"),
 )
 
@@ -109,6 +119,29 @@ def test_lines(tally):
         except lupasm.TextError as error:
             shown = f'line {error.line}: {error}' if error.line else str(error)
             tally.holds(text[:60], message in shown, shown)
+
+
+# A text, its bytes, and the text that comes back; by hand.
+EDITIONS = (
+    ('five = const i16 5\n', '01 00 04 0A', 'n0 = const i16 5\n'),
+    ('five = const i16 5\nk = known five\n', '00 02 02 00 04 0A 16 00', 'n0 = const i16 5\nn1 = known n0\n'),
+    ('five = const i16 5\nf = fill five five\nk = load f device 1\n', '00 02 03 00 04 0A 15 00 00 14 02 02',
+     'n0 = const i16 5\nn1 = fill n0 n0\nn2 = load n1 device 1\n'),
+    ('five = const i16 5\ns = stack five five\n', '00 02 02 00 04 0A 17 00 00 00 04', 'n0 = const i16 5\nn1 = stack n0 n0\n'),
+    ('a = const i16 5\nb = const i16 6\ns = stack b a b\nt = node 23 1=2 2=2 3=1 5=2\n', '00 02 04 00 04 0A 00 04 0C 17 02 00 02 06 17 04 04 02 04',
+     'n0 = const i16 5\nn1 = const i16 6\nn2 = stack n1 n0 n1\nn3 = node 23 1=2 2=2 3=1 5=2\n'),
+)
+
+
+def test_editions(tally, asm):
+    """The second edition where a new operation is used, and the first elsewhere; back in words."""
+    for text, written, again in EDITIONS:
+        data = bytes.fromhex(written)
+        asm.put('plan.lup', text.encode())
+        with tally.case(('the edition of', text)):
+            tally.same('assembled', (asm.run('plan.lup', '-o', 'plan.plan'), asm.get('plan.plan')), (DONE, data))
+            tally.same('back', asm.run('--back', 'plan.plan'), (0, again, ''))
+            expect_packed(tally, text)
 
 
 def accepts(text):
@@ -156,7 +189,7 @@ def test_plans(tally, rng, count):
     for _ in range(count):
         table = []
         for _ in range(rng.randint(1, 6)):
-            op = rng.randrange(21)
+            op = rng.randrange(len(model.USED_WORDS))
             table += node(op, {word: rng.choice((0, 1, 2, 3, rng.choice(ends))) for word in model.USED_WORDS[op]})
         with tally.case(('any words', table)):
             text = lupasm.back(cases.pack(table))
@@ -345,7 +378,10 @@ REFUSED = [(number, place, bytes.fromhex(data)) for number, place, data in (
     (21, 0, '8100040A'), (21, 0, '8000'), (21, 1, '018000040A'), (21, 2, '010084000A'), (21, 3, '0100048A00'),
     (21, 3, '0100048000'), (21, 0, 'FFFFFFFFFF'), (21, 3, '010004FFFFFFFFFF'), (21, 3, '010004FFFFFFFFFF01'),
     (22, 4, '0100040A00'), (22, 4, '0100040A0100040A'), (23, 0, '00'), (23, 0, '000004'), (23, 0, '8102'),
-    (23, 0, 'FFFFFFFF7F'), (24, 1, '0115'), (24, 1, '017F'), (24, 1, '01FF01'))]
+    (23, 0, 'FFFFFFFF7F'), (24, 1, '0115'), (24, 1, '017F'), (24, 1, '01FF01'), (24, 1, '011600'), (24, 4, '0200040A1700000004'),
+    (23, 0, '0001'), (23, 0, '008200'), (23, 0, '00030100040A'), (20, 2, '0002'), (20, 2, '000280'), (21, 2, '00028100040A'), (23, 0, '000200'),
+    (23, 0, '00028102'), (20, 3, '000201'), (20, 6, '00020200040A'), (21, 3, '0002019600'), (24, 3, '00020118'), (22, 5, '000201160000'),
+    (22, 6, '00020100040A00'), (26, 0, '00020100040A'), (26, 0, '00020200040A090000'))]
 
 
 def answer_of(data):
@@ -373,13 +409,13 @@ def test_back(tally, asm):
             tally.same('the program', asm.run('--back', 'bad.plan'), refused('bad.plan', number, place))
     got = asm.run('--back', 'bad.plan', '-o', 'old.lup')
     tally.same('to a file', (got, asm.get('old.lup')), (refused('bad.plan', number, place), OLD))
-    tally.same('every refusal', {number for number, _, _ in REFUSED}, {20, 21, 22, 23, 24})
+    tally.same('every refusal', {number for number, _, _ in REFUSED}, {20, 21, 22, 23, 24, 26})
 
 
 def test_damage(tally, rng, count):
     """Packed plans with bytes changed, put in, taken out or cut off: unpacked or refused as the model says."""
     met = set()
-    plans = [cases.pack(run.table) for run in run_cases.random_runs(rng, 40)] + [FIVE]
+    plans = [cases.pack(run.table) for run in run_cases.random_runs(rng, 40)] + [FIVE, b'\0\2' + FIVE] * 4
     for _ in range(count):
         data = bytearray(rng.choice(plans))
         for _ in range(rng.randint(1, 2)):
@@ -389,7 +425,7 @@ def test_damage(tally, rng, count):
         wanted = answer_of(bytes(data))
         met.add(wanted[0])
         tally.same(data.hex(), back_of(bytes(data)), wanted)
-    tally.holds('every refusal is met', met == {0, 20, 21, 22, 23, 24} or count < 300, met)
+    tally.holds('every refusal is met', met == {0, 20, 21, 22, 23, 24, 26} or count < 300, met)
 
 
 def test_library(tally, asm):
@@ -708,7 +744,7 @@ def test_help(tally, asm):
             tally.same('status', (status, errors), (0, ''))
             for part in ('lupasm.py TEXT -o PLAN', '--back PLAN', '--check', 'Exit status: 0 done;', *lupasm.FORMS):
                 tally.holds(part, part in text)
-    for name in ('small.lup', 'bay.lup'):
+    for name in ('small.lup', 'bay.lup', 'filled.lup'):
         tally.same(('--check', name), asm.run('--check', os.path.join(ROOT, 'demo', name)), DONE)
 
 
@@ -719,13 +755,13 @@ def test_example(tally):
         for name in sorted(os.listdir(here)):
             with open(os.path.join(here, name), 'rb') as fresh, open(os.path.join(ROOT, 'demo', name), 'rb') as kept:
                 tally.same(name, fresh.read() == kept.read(), True)
-    with open(os.path.join(ROOT, 'demo', 'bay.lup'), encoding='utf-8') as file:
-        tally.same('bay.lup is accepted', model.verdict(lupasm.table_of(file.read()))[0], 0)
     texts = glob.glob(os.path.join(ROOT, 'demo', '*.lup'))
-    tally.holds('the plans of the demo', len(texts) >= 2, texts)
+    tally.holds('the plans of the demo', len(texts) >= 3, texts)
     for path in sorted(texts):
         with open(path, encoding='utf-8') as file:
-            expect_packed(tally, file.read())
+            text = file.read()
+        tally.same((path, 'is accepted'), model.verdict(lupasm.table_of(text))[0], 0)
+        expect_packed(tally, text)
 
 
 def main():
@@ -740,7 +776,7 @@ def main():
     test_ranks(tally)
     test_plans(tally, rng, count)
     test_damage(tally, rng, count)
-    for test in (test_program, test_messages, test_standard, test_check, test_back, test_library, test_long, test_parts,
+    for test in (test_program, test_editions, test_messages, test_standard, test_check, test_back, test_library, test_long, test_parts,
                  test_outputs, test_kept, test_failures, test_full, test_order, test_taken, test_signals, test_waiting,
                  test_help):
         with tempfile.TemporaryDirectory() as here:

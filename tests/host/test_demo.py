@@ -1,5 +1,6 @@
 #!/usr/bin/env python3
-"""The demo's output: the field against the independent model, a gap where the dead machine's strip is and nowhere else, the pictures, the listing.
+"""The demo's output: the field against the independent model, a gap where the dead machine's strip is and nowhere else, the gaps filled from the hour
+before and told apart, the share that is known, the pictures, the listing.
 
 usage: test_demo.py     last line: 'N passed, 0 failed'
 """
@@ -24,21 +25,36 @@ from tally import Tally  # noqa: E402
 
 OUT = os.path.join(ROOT, 'build', 'demo')
 FIELD, STRONGEST = 81, 82
+PERCENT, BOTH = 8, 10
 SHAPE = (make_bay.ROWS, make_bay.COLUMNS - 2)
 # the columns of the field that the dead machine's strip has a part in
 DEAD = range(make_bay.STEP * make_bay.DEAD - 1, make_bay.STEP * make_bay.DEAD - 1 + make_bay.WIDTH)
 
 
-def read_field(path):
-    """Extents, and a value or None for each cell."""
+def read_field(path, ends=24):
+    """Extents, and a value or None for each cell; ends: the bytes after the flags, those of the bounds."""
     with open(path, 'rb') as file:
         data = file.read()
     magic, rank = struct.unpack_from('<8sQ', data)
     extents = struct.unpack_from(f'<{rank}Q', data, 16)
     count = prod(extents)
     cells = struct.unpack_from(f'<{count}q{count}B', data, 16 + 8 * rank)
-    assert magic == b'LUPFIELD' and len(data) == 16 + 8 * rank + 9 * count + 24, path
+    assert magic == b'LUPFIELD' and len(data) == 16 + 8 * rank + 9 * count + ends, path
     return extents, [value if flag else None for value, flag in zip(cells[:count], cells[count:])]
+
+
+def table_of(name):
+    """The table of a plan of the demo, which has to be accepted, and the records of its nodes."""
+    with open(os.path.join(ROOT, 'demo', name), encoding='utf-8') as file:
+        table = lupasm.table_of(file.read())
+    number, records = model.verdict(table)
+    assert number == 0, (name, number, records)
+    return table, records
+
+
+def hatched(lines):
+    """Whether each cell of a picture's lines is drawn as a gap."""
+    return [line[2 * column:2 * column + 2] == '//' for line in lines for column in range(len(line) // 2)]
 
 
 def wanted(table, dead):
@@ -47,9 +63,7 @@ def wanted(table, dead):
     for k in range(make_bay.STRIPS):
         cells += [dead] * (make_bay.ROWS * make_bay.WIDTH) if k == make_bay.DEAD else make_bay.strip(k)
     cells += [make_bay.zone_of(column) for _ in range(make_bay.ROWS) for column in range(make_bay.COLUMNS)]
-    number, records = model.verdict(table)
-    assert number == 0, records
-    fields = model.all_fields(table, records, [cell or 0 for cell in cells], [int(cell is not None) for cell in cells])
+    fields = model.all_fields(table, model.verdict(table)[1], [cell or 0 for cell in cells], [int(cell is not None) for cell in cells])
     return [list(fields[node].values()) for node in (FIELD, STRONGEST)]
 
 
@@ -64,8 +78,7 @@ def test_pictures(tally, text, cells):
     tally.same('rows of the picture', len(shown), SHAPE[0])
     tally.same('its width', {len(line) for line in shown}, {2 * SHAPE[1]})
     tally.same('no number in a cell', re.search('[0-9]', ''.join(shown)), None)
-    hatched = [line[2 * column:2 * column + 2] == '//' for line in shown for column in range(SHAPE[1])]
-    tally.same('hatched where it is a gap', hatched, [cell is None for cell in cells])
+    tally.same('hatched where it is a gap', hatched(shown), [cell is None for cell in cells])
     first = picture(text, 'What version one would have shown')
     tally.same('version one hatches nothing', '//' in ''.join(first), False)
     test_one_scale(tally, text)
@@ -77,16 +90,37 @@ def test_pictures(tally, text, cells):
 
 def test_one_scale(tally, text):
     """All pictures of the demo have the scale of the bounds that the model derives, and a cell that is alike in two pictures has one colour in both."""
-    with open(os.path.join(ROOT, 'demo', 'bay.lup'), encoding='utf-8') as file:
-        record = model.verdict(lupasm.table_of(file.read()))[1][FIELD]
+    record = table_of('bay.lup')[1][FIELD]
     legends = re.findall(r'^(-?\d+) \.\. .* @@ (-?\d+)$', text, re.M)
-    tally.same('one scale in the three texts', legends, [(str(record.low), str(record.high))] * 3)
+    tally.same('one scale in the four texts', legends, [(str(record.low), str(record.high))] * 4)
     trees = [xml.etree.ElementTree.parse(os.path.join(OUT, name + '.svg')) for name in ('field', 'zeros')]
     ends = [[element.text for element in tree.iter() if element.get('id') == end] for tree in trees for end in ('low', 'high')]
     tally.same('one scale in the two SVG pictures', ends, [[str(record.low)], [str(record.high)]] * 2)
     fills = [[element.get('fill') for element in tree.iter() if element.get('class') in ('known', 'gap')] for tree in trees]
     both = [pair for k, pair in enumerate(zip(*fills)) if k % SHAPE[1] not in DEAD]
     tally.same('cells away from the dead strip', (len(both), [pair for pair in both if pair[0] != pair[1]]), (SHAPE[0] * (SHAPE[1] - len(DEAD)), []))
+
+
+def test_filled(tally, text, six):
+    """The gaps at six filled from the hour before, cell by cell without the model: what is known at six stays, and both stand in one file."""
+    shape, five = read_field(os.path.join(ROOT, 'demo', 'five.field'), ends=0)
+    tally.same('the hour before', (shape, five), (SHAPE, [make_bay.hour_before(row, column) for row in range(SHAPE[0]) for column in range(SHAPE[1])]))
+    pairs = list(zip(six, five))
+    for name, kind in (('known at both', (True, True)), ('filled', (False, True)), ('known at six alone', (True, False)), ('known at neither', (False, False))):
+        tally.holds(('the example has a cell', name), kind in [(now is not None, before is not None) for now, before in pairs])
+    filled = [before if now is None else now for now, before in pairs]
+    tally.same('both fields in one', read_field(os.path.join(OUT, 'filled.field')), ((2, *SHAPE), six + filled))
+    percent = 100 * sum(cell is not None for cell in six) // len(six)
+    tally.same('the share that is known', read_field(os.path.join(OUT, 'share.field')), ((1, 1), [percent]))
+    tally.same('it is said', re.findall(r'^known at six: (\d+) percent of the cells$', text, re.M), [str(percent)])
+    first, second = (part.split('\n', 1) for part in text[text.index('Picture 0 is the field at six'):].split('\n\n')[2:4])
+    tally.same('two pictures', (first[0], second[0]), ('picture 0', 'picture 1'))
+    for name, part, cells in (('six', first[1], six), ('filled', second[1], filled)):
+        tally.same(('hatched where it is a gap', name), hatched(part.split('\n')), [cell is None for cell in cells])
+    records = table_of('filled.lup')[1]
+    tally.same('its plan', [(len(records) - 1, records[BOTH].extents), records[PERCENT][2:]], [(BOTH, (2, *SHAPE)), (0, 100, (1, 1))])
+    with open(os.path.join(OUT, 'filled.plan'), 'rb') as file:
+        tally.same('its file is of the second edition', file.read(2), b'\0\2')
 
 
 def run_demo(root):
@@ -113,8 +147,7 @@ def main():
     done = run_demo(ROOT)
     missing = f'missing: demo/strip-{make_bay.DEAD:02}.field (PARAM {make_bay.DEAD}, {make_bay.ROWS}x{make_bay.WIDTH}): read as gaps\n'
     tally.same('the demo ends well, and names the missing strip in each of two runs', (done.returncode, done.stderr), (0, 2 * missing))
-    with open(os.path.join(ROOT, 'demo', 'bay.lup'), encoding='utf-8') as file:
-        table = lupasm.table_of(file.read())
+    table = table_of('bay.lup')[0]
     field, strongest = wanted(table, None)
     tally.same('the field', read_field(os.path.join(OUT, 'field.field')), (SHAPE, field))
     tally.same('the strongest', read_field(os.path.join(OUT, 'strongest.field')), ((1, SHAPE[1]), strongest))
@@ -124,6 +157,7 @@ def main():
     tally.same('no line of it is on standard output', 'missing: ' in done.stdout, False)
     test_statuses(tally)
     test_pictures(tally, done.stdout, field)
+    test_filled(tally, done.stdout, field)
     with open(os.path.join(OUT, 'bay.plan'), 'rb') as file:
         listed = subprocess.run([os.path.join(ROOT, 'build', 'list')], stdin=file, capture_output=True, text=True, check=True).stdout
     tally.same('the listing', listed in done.stdout, True)

@@ -95,7 +95,13 @@ def record(dtype=3, low=0, high=1, extents=()):
 
 
 def source_count(op):
+    """The most sources that the operation has."""
     return sum(word in (1, 2, 3) for word in model.USED_WORDS[op])
+
+
+def numbers_for(op):
+    """The numbers of word 5 to try: how many sources a STACK has, else the kinds of a REDUCE."""
+    return (2, 3) if op == model.STACK else (0, 1)
 
 
 # ------------------------------------------------------------ sections 1 to 3
@@ -138,17 +144,17 @@ def test_operations(tally, page):
         tally.same((name, 'number'), getattr(model, name), op)
         tally.same((name, 'words'), (numbers_of(words), lupasm.USED[op]), (model.USED_WORDS[op],) * 2)
         with tally.case((name, 'types')):
-            for some in product(range(4), repeat=source_count(op)):
-                node = node_of(op, [record(dtype) for dtype in some], w4=2 * (4 in model.USED_WORDS[op]))
-                good = bool(TYPE_RULES[types](*some))
-                tally.same((name, some, 'accepted'), not model.dtypes_wrong(node), good)
+            for some, count in product(product(range(4), repeat=source_count(op)), numbers_for(op)):
+                node = node_of(op, [record(dtype) for dtype in some], w4=2 * (4 in model.USED_WORDS[op]), w5=count)
+                good = bool(TYPE_RULES[types](*(some[:count] if op == model.STACK else some)))
+                tally.same((name, some, count, 'accepted'), not model.dtypes_wrong(node), good)
                 if good:
-                    tally.same((name, some, 'type of the result'), RESULT_TYPES[result](node.words[4], some), model.result_dtype(node))
+                    tally.same((name, some, count, 'type of the result'), RESULT_TYPES[result](node.words[4], some), model.result_dtype(node))
 
 
 def test_values(tally, page):
     rows = page.table('operation', 'number')
-    tally.same('binary operations', [getattr(model, name) for name, _ in rows], list(model.BINARY))
+    tally.same('binary operations', [getattr(model, name) for name, _ in rows], list(range(model.ADD, model.OR + 1)))
     for name, formula in rows:
         op = getattr(model, name)
         ends = (0, 1) if name in ('AND', 'OR') else ENDS
@@ -160,6 +166,42 @@ def test_values(tally, page):
     for row in page.table('x', 'y', 'IDIV', 'MOD'):
         x, y, *results = map(int, row)
         tally.same(('quotient', x, y), results, [model.binary_value(op, x, y) for op in (model.IDIV, model.MOD)])
+
+
+def run_of(table, cells):
+    """The model's answer to a run and the cells of the last node; None is a gap, over which another number stands."""
+    number, records = model.verdict(table)
+    assert number == 0, (number, records)
+    total = sum(prod(node.extents) for node in records)
+    values, flags = [77] * total, [77] * total
+    answer = model.run(table, [99 if cell is None else cell for cell in cells], [int(cell is not None) for cell in cells], values, flags)
+    return answer, [value if flag else None for value, flag in zip(values, flags)][total - prod(records[-1].extents):]
+
+
+def test_gaps(tally, page):
+    """FILL and KNOWN of a cell or two, each a number or a gap, by their formulas."""
+    rows = dict(page.table('operation', 'element'))
+    tally.same('operations on gaps', list(rows), ['FILL', 'KNOWN'])
+    ends = (None, -32767, -1, 0, 1, 255, 32767)
+    cell = 'param i16 -32767..32767 - device 1'
+    for name, lines in (('FILL', f'x = {cell}; y = {cell}; a = fill x y'), ('KNOWN', f'x = {cell}; a = known x')):
+        for cells in product(ends, repeat=lines.count('param')):
+            wanted = eval(rows[name], dict(zip('xy', cells)))
+            tally.same((name, cells), run_of(plan_of(lines), cells), ((0, 0, int(wanted is None)), [wanted]))
+
+
+def test_stack(tally):
+    """STACK as the page says it: the element at coordinates i is that of source i[0] at the coordinates after it."""
+    for extents in ((), (2,), (2, 3), (2, 1, 3)):
+        shape, count = 'x'.join(map(str, extents)) or '-', prod(extents)
+        for number in (2, 3):
+            names = 'xyz'[:number]
+            text = '; '.join([*(f'{name} = param i16 0..99 {shape} device 1' for name in names), f'a = stack {" ".join(names)}'])
+            cells = [None if k % 5 == 2 else k for k in range(number * count)]
+            sources = [dict(zip(model.all_coordinates(extents), cells[k * count:])) for k in range(number)]
+            answer, got = run_of(plan_of(text), cells)
+            tally.same((text, 'extents'), model.verdict(plan_of(text))[1][-1].extents, (number, *extents))
+            tally.same((text, 'elements'), (answer.number, got), (0, [sources[i[0]][i[1:]] for i in model.all_coordinates((number, *extents))]))
 
 
 def rows_for(name, rank):
@@ -225,17 +267,10 @@ def test_examples(tally, page):
     for text, given, shape, bounds, output in page.table('plan', 'input', 'shape', 'bounds', 'output'):
         table, cells = plan_of(text), cells_of(given)
         operations |= {table[first] for first in range(0, len(table), model.NODE_WORDS)}
-        number, records = model.verdict(table)
-        tally.same((text, 'accepted'), number, 0)
-        total = sum(prod(node.extents) for node in records)
-        values, flags = [77] * total, [77] * total
-        answer = model.run(table, [99 if cell is None else cell for cell in cells], [int(cell is not None) for cell in cells], values, flags)
-        wanted, last = cells_of(output), records[-1]
-        tally.same((text, 'answer'), answer, (0, 0, wanted.count(None)))
-        got = [value if flag else None for value, flag in zip(values, flags)][total - len(wanted):]
-        tally.same((text, 'output'), (got, len(wanted)), (wanted, prod(last.extents)))
+        wanted, last = cells_of(output), model.verdict(table)[1][-1]
+        tally.same((text, 'answer and output'), run_of(table, cells), ((0, 0, wanted.count(None)), wanted))
         tally.same((text, 'shape and bounds'), (shape, bounds), ('x'.join(map(str, last.extents)), f'{last.low}..{last.high}'))
-    tally.holds('most operations are in an example', len(operations) >= 17, operations)
+    tally.holds('most operations are in an example', len(operations) >= 20 and operations >= {model.FILL, model.KNOWN, model.STACK}, operations)
 
 
 # ------------------------------------------------------------------ section 4
@@ -253,7 +288,7 @@ def test_bounds(tally, page):
             for sources in product(intervals, repeat=source_count(op)):
                 if op in (model.IDIV, model.MOD) and sources[1][0] <= 0 <= sources[1][1]:
                     continue
-                for number in (0, 1):
+                for number in numbers_for(op):
                     node = node_of(op, [record(low=low, high=high, extents=(2, 5, 3)) for low, high in sources], w5=number, w7=-3, w8=12, w9=1, w11=1)
                     names = dict(zip('aAbBcC', sum(sources, ())), number=number, low=-3, high=12, n=6)
                     low, high = next((low, high) for where, low, high in some if not where or eval(where, names))
@@ -276,7 +311,7 @@ def placed():
     for number, line in bad.items():
         yield number, model.check(plan_of(fine + 'q = ' + line), [0] * 16)
     table = plan_of(fine + 'q = const u8 1')
-    yield 2, model.check([*table[:17], 21, *table[18:]], [0] * 16)
+    yield 2, model.check([*table[:17], 24, *table[18:]], [0] * 16)
     yield 3, model.check([*table[:33], 1], [0] * 16)
     yield 9, model.check(plan_of('p = param u8 0..9 2 device 1; q = load p device 2; r = add p q'), [0] * 24)
     yield 1, model.check(table[:-1], [0] * 16)
@@ -287,7 +322,8 @@ def placed():
     yield 16, model.run(table, [1] * 7 + [10], [1] * 8, [0] * 9, [0] * 9)
     yield 17, model.lookup(table, 1, 1)
     yield 25, model.pack([*table[:22], 2 ** 34, *table[23:]], [0] * 30)
-    for number, data in ((20, '02 00 04 0A 00 80'), (21, '02 00 04 0A 00 80 00'), (22, '01 00 04 0A 00'), (23, '00'), (24, '02 00 04 0A 15')):
+    for number, data in ((20, '02 00 04 0A 00 80'), (21, '02 00 04 0A 00 80 00'), (22, '01 00 04 0A 00'), (23, '00'), (24, '02 00 04 0A 15'),
+                         (26, '00 02 02 00 04 0A 09 00 00')):
         yield number, model.unpack(bytes.fromhex(data), [0] * 34)
 
 
@@ -316,8 +352,8 @@ def answered(call, faults):
     table[lupasm.LOW] = 2 ** 34 if 25 in faults else table[lupasm.LOW]
     table = table[:len(table) - (1 in faults)]
     data[0] *= 23 not in faults
-    data[1] = 21 if 24 in faults else data[1]
-    data += bytes(22 in faults)
+    data[1] = 24 if 24 in faults else data[1]
+    data = bytes([0, 2] * (26 in faults)) + data + bytes(22 in faults)
     room = [0] * (0 if 14 in faults else 170)
     if call == 'lup_check':
         return model.check(table, room).number
@@ -338,7 +374,7 @@ def fuzzed_answers():
 
 
 # One of each step of a call, by which test_order makes it due.
-FAULTS = (1, 11, 12, 13, 14, 15, 17, 22, 23, 24, 25)
+FAULTS = (1, 11, 12, 13, 14, 15, 17, 22, 23, 24, 25, 26)
 
 
 def test_order(tally, page):
@@ -378,6 +414,8 @@ def test_packed(tally, page):
         tally.same((text, 'unpacked'), table, plan_of(text))
         data = bytearray(len(bytes.fromhex(coded)))
         tally.same((text, 'written'), (model.pack(table, data), data.hex()), ((0, 0, len(data)), bytes.fromhex(coded).hex()))
+    for coded, answer in page.table('bytes', 'answer'):
+        tally.same((coded, 'answer'), model.listing(bytes.fromhex(coded)).decode().splitlines()[-1], answer)
 
 
 def test_prose(tally, page, text):
@@ -385,6 +423,9 @@ def test_prose(tally, page, text):
     size = 2 + model.MOST_NODES * longest
     words = ' '.join(text.split())
     tally.holds('the most bytes', f'2 + {model.MOST_NODES}·{longest} = {size} bytes' in words)
+    new = 1 + 5 * max(len(model.USED_WORDS[op]) for op in (model.FILL, model.KNOWN, model.STACK))
+    size = 4 + (model.MOST_NODES - 1) * longest + new
+    tally.holds('the most bytes of the second edition', f'2 + 2 + {model.MOST_NODES - 1}·{longest} + {new} = {size} bytes' in words)
     tally.holds('what the programs read', f'the first {model.MOST_LISTING_BYTES} bytes' in words)
     tally.holds('no bytes', f'`{model.listing(b"").decode().strip()}`' in words)
     tally.holds('the size of a field file', '16 + 8·rank + 9·count bytes, and 24 more with bounds' in words)
@@ -434,9 +475,10 @@ def main():
     tally = Cases()
     text = read('docs', 'FORMAT.md')
     page = Page(text)
-    for test in (test_words, test_limits, test_types, test_operations, test_movements, test_values, test_examples, test_bounds, test_refusals, test_order,
+    for test in (test_words, test_limits, test_types, test_operations, test_movements, test_values, test_gaps, test_examples, test_bounds, test_refusals, test_order,
                  test_packed, test_field):
         test(tally, page)
+    test_stack(tally)
     test_prose(tally, page, text)
     tally.finish()
 

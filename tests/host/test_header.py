@@ -27,7 +27,7 @@ MACROS = 'LUP_VERSION_MAJOR', 'LUP_VERSION_MINOR', 'LUP_VERSION_PATCH', 'LUP_VER
 ENDS = 'LUP_LEAST_PACKED_WORD', 'LUP_MOST_PACKED_WORD'
 # Names that callers have written down stay; 18 and 19 are not given.
 REFUSALS = ('LENGTH OPERATION UNUSED_WORD SOURCE TYPE OPERAND_TYPES ROW_OR_NUMBER SHAPE DEVICES DIVISOR BOUNDS ELEMENTS INPUT_LENGTH ROOM FLAG VALUE LOOKUP'
-            ' - - PACKED_END PACKED_NUMBER PACKED_REST PACKED_COUNT PACKED_OPERATION WORD_RANGE').split()
+            ' - - PACKED_END PACKED_NUMBER PACKED_REST PACKED_COUNT PACKED_OPERATION WORD_RANGE PACKED_EDITION').split()
 # Words of a node by their names in docs/FORMAT.md, and of those that stand together the first.
 WORDS = {'operation': ('OPERATION',), 'sources': ('SOURCE',), 'type': ('TYPE',), 'number': ('NUMBER',), 'device': ('DEVICE',), 'low, high': ('LOW', 'HIGH'),
          'row A': ('ROW_A',), 'row B': ('ROW_B',)}
@@ -122,7 +122,7 @@ def test_python(tally, page):
     for name, number in (('NODE_WORDS', lupetzarin.NODE_WORDS), ('MOST_NODES', lupetzarin.MOST_NODES), ('WORD_NUMBER', lupetzarin.NUMBER_WORD),
                          ('MOST_PACKED_BYTES', lupetzarin.MOST_PACKED_BYTES), ('LEAST_PACKED_WORD', lupetzarin.LEAST_PACKED_WORD),
                          ('MOST_PACKED_WORD', lupetzarin.MOST_PACKED_WORD), ('OP_PARAM', lupetzarin.PARAM), ('TYPE_BOOL', lupetzarin.BOOL), ('WORD_SOURCE', lupasm.SOURCE), ('WORD_TYPE', lupasm.TYPE),
-                         ('WORD_ROW_A', lupasm.ROW_A), ('WORD_ROW_B', lupasm.ROW_B), ('OP_REDUCE', lupasm.REDUCE)):
+                         ('WORD_ROW_A', lupasm.ROW_A), ('WORD_ROW_B', lupasm.ROW_B), ('OP_REDUCE', lupasm.REDUCE), ('OP_FILL', lupasm.FILL), ('OP_STACK', lupasm.STACK)):
         tally.same(name, number, names['LUP_' + name])
 
 

@@ -35,7 +35,7 @@ import cases  # noqa: E402
 import model  # noqa: E402
 from cases import LARGE, apply, const, move, node, pack, param, reduce_node  # noqa: E402
 from counting import Cases  # noqa: E402
-from model import ADD, CAST, EXPAND, FLIP, IDIV, LOAD, MOD, PAD, PARAM, PERMUTE, RESHAPE, SHRINK, WHERE  # noqa: E402
+from model import ADD, CAST, EXPAND, FILL, FLIP, IDIV, KNOWN, LOAD, MOD, PAD, PARAM, PERMUTE, RESHAPE, SHRINK, STACK, WHERE  # noqa: E402
 from program import QUICK, Program  # noqa: E402
 from wording import (LARGE as MOST, OPERATIONS, RULES, SHADES, TYPES, bounds_of, drawing, field_bytes, least_to_greatest, lookup_texts,  # noqa: E402
                      outside_text, picture_rows, position_text, range_bytes, read_field, refusal_text, shape_text, step)
@@ -47,12 +47,18 @@ OLD = field_bytes((2,), [1, None])
 PAIR = param(0, I16, -9, 9, (2,))
 SIX = param(0, I16, -9, 9, (2, 3))
 PADDED = PAIR + move(PAD, 0, (4,), (1,))
+EVERY = range(len(OPERATIONS))
 # The text of that table, and what is told of its plan.
 TABLE = b'1 0 0 0 2 0 1 -9 9 2 0 0 0 0 0 0 0\n6 0 0 0 0 0 0 0 0 4 0 0 0 1 0 0 0\n'
 PACKED = 'written: {}, 2 nodes in 21 bytes\n'
 
 
 # ------------------------------------------------------- plans and refusals
+
+def stack(number, *sources):
+    """A STACK of that number, which may be wrong; words of sources that are not given are 0."""
+    return node(STACK, {**dict(enumerate(sources, 1)), 5: number})
+
 
 # One plan or more for each refusal that a plan file can meet: number, place, table.
 REFUSED_TABLES = [
@@ -69,10 +75,23 @@ REFUSED_TABLES = [
     (11, 0, const(U8, 256)), (11, 1, PAIR + node(CAST, {1: 0, 4: U8})), (11, 1, param(0, I16, -20000, 20000, (2,)) + apply(ADD, 0, 0)),
     (11, 0, const(I16, -32768)), (11, 1, param(0, I16, -16384, 16383, (2,)) + apply(ADD, 0, 0)),
     (12, 0, param(0, BOOL, 0, 1, (LARGE,)) + node(LOAD, {1: 0, 6: 1}) * 3 + const(BOOL, 1)),
+    (4, 1, PAIR + apply(FILL, 0, 1)), (4, 0, apply(KNOWN, 0)), (4, 1, PAIR + stack(2, 0, 1)), (4, 1, PAIR + stack(3, 0, 0, 1)), (4, 1, PAIR + stack(7, 0, 1, 1)),
+    (6, 2, PAIR + const(I32, 1) + apply(FILL, 0, 1)), (6, 2, PAIR + const(I32, 1) + stack(2, 0, 1)), (6, 2, PAIR + const(I32, 1) + stack(3, 0, 0, 1)),
+    (6, 2, PAIR + const(I32, 1) + stack(4, 0, 1, 9)),
+    *((7, 1, PAIR + stack(number, 0, 0, third)) for number, third in ((1, 0), (4, 0), (0, 0), (-3, 9), (2, 1), (2, -1), (2, 9), (2 ** 33 + 2, 0), (2 ** 33 + 3, 0))),
+    (8, 2, PAIR + param(1, I16, 0, 9, (3,)) + apply(FILL, 0, 1)), (8, 2, PAIR + const(I16, 1) + stack(2, 0, 1)), (8, 2, PAIR + const(I16, 1) + stack(3, 0, 0, 1)),
+    (8, 1, param(0, I16, 0, 9, (1, 1, 1, 2)) + stack(2, 0, 0)), (8, 1, param(0, I16, 0, 9, (LARGE,)) + stack(2, 0, 0)),
+    (9, 2, PAIR + param(1, I16, 0, 9, (2,), 2) + apply(FILL, 0, 1)), (9, 2, PAIR + param(1, I16, 0, 9, (2,), 2) + stack(3, 0, 0, 1)),
 ]
 REFUSED_BYTES = [
     (20, 0, b''), (20, 3, b'\x01\x00\x04'), (20, 3, b'\x01\x00\x04\x80'), (21, 3, b'\x01\x00\x04\x80\x00'), (21, 0, b'\xff' * 5),
     (22, 4, b'\x01\x00\x04\x0a\x00'), (22, 4, b'\x01\x00\x04\x0a' + bytes(20000)), (23, 0, b'\x00'), (23, 0, b'\x81\x02'), (24, 1, b'\x01\x15'),
+    *((number, place, bytes.fromhex(text)) for number, place, text in (
+        (23, 0, '00 01'), (23, 0, '00 82 00'), (23, 0, '00 03 01 16 00'), (23, 0, '00 00 02 01 16 00'), (20, 2, '00 02'), (20, 2, '00 02 80'), (21, 2, '00 02 80 00'),
+        (21, 2, '00 02 FF FF FF FF FF'), (23, 0, '00 02 00'), (23, 0, '00 02 81 02'), (20, 6, '00 02 02 00 04 0A'), (20, 7, '00 02 02 00 04 0A 17'),
+        (21, 6, '00 02 02 00 04 0A 96 00 00'), (24, 3, '00 02 01 18'), (24, 6, '00 02 02 00 04 0A 18 00'), (24, 4, '02 00 04 0A 16 00'), (24, 1, '01 17 00 00 00 04'),
+        (22, 8, '00 02 02 00 04 0A 16 00 00'), (22, 6, '00 02 01 00 04 0A 00'), (26, 0, '00 02 01 00 04 0A'), (26, 0, '00 02 02 00 04 0A 09 00 00'))),
+    (26, 0, b'\x00\x02' + pack(node(PAD, dict.fromkeys(model.USED_WORDS[PAD], 2 ** 34 - 1)) * 256)),
 ]
 
 
@@ -97,14 +116,25 @@ def test_refusals(tally, lup):
 
 
 def test_wording(tally, lup):
-    """Three messages word for word."""
+    """Messages word for word."""
     for table, message in (
+            (PAIR + stack(2, 0, 0, 1), 'lup: bay.plan: refused 7 at node 1 (STACK): row or number wrong: number neither 2 nor 3, or word 3 not 0 with number 2\n'),
+            (SIX + const(I16, 1) + stack(2, 0, 1), 'lup: bay.plan: refused 8 at node 2 (STACK): shapes disagree, or over 1048576 elements: '
+                                                   'sources not of one shape, of a rank over 3, or of over 1048576 elements together\n'),
+            (PAIR + param(1, I16, 0, 9, (3,)) + apply(FILL, 0, 1), 'lup: bay.plan: refused 8 at node 2 (FILL): shapes disagree, or over 1048576 elements\n'),
             (PAIR + move(PAD, 0, (3,), (2,)), 'lup: bay.plan: refused 8 at node 1 (PAD): shapes disagree, or over 1048576 elements\n'),
             (SIX + move(FLIP, 0, (2, 0)),
              'lup: bay.plan: refused 7 at node 1 (FLIP): row or number wrong: not a flag 0 or 1 for each axis of the source\n'),
-            (REFUSED_TABLES[-1][2], 'lup: bay.plan: refused 12: all nodes together over 4194304 elements\n')):
+            (param(0, BOOL, 0, 1, (LARGE,)) + node(LOAD, {1: 0, 6: 1}) * 4, 'lup: bay.plan: refused 12: all nodes together over 4194304 elements\n')):
         lup.put('bay.plan', pack(table))
         tally.same(message, lup.run('check', 'bay.plan'), (1, '', message))
+    for data, message in (
+            ('00 02 01 00 04 0A', 'lup: bay.plan: refused 26 at byte 0: second edition file with no operation 21..23\n'),
+            ('00', 'lup: bay.plan: refused 23 at byte 0: node count not 1..256, or a first byte 0 without a 2 after it\n'),
+            ('00 02', 'lup: bay.plan: refused 20 at byte 2: bytes end before or inside a number\n'),
+            ('02 00 04 0A 16 00', 'lup: bay.plan: refused 24 at byte 4: operation not 0..20, in a second edition file not 0..23\n')):
+        lup.put('bay.plan', bytes.fromhex(data))
+        tally.same(message, (lup.run('check', 'bay.plan'), lup.run('unpack', 'bay.plan')), ((1, '', message),) * 2)
 
 
 TEXTS = [b'wind = param i16 -9..9 2 device 1\n', b'# a comment alone', b'a=b', b'x =\r\n\ty\v\f', 'wind = é € 𝄞 # ü\n'.encode(),
@@ -151,7 +181,7 @@ def longest_plans():
 
 
 def test_lists(tally, lup, rng):
-    tables = [make(rng, op) for op in range(21) for make in (lambda r, o: cases.make_plan(r, o, r.randint(0, 4)).table,) * 2]
+    tables = [make(rng, op) for op in EVERY for make in (lambda r, o: cases.make_plan(r, o, r.randint(0, 4)).table,) * 2]
     several = [pack(table) for table in tables] + [case.args[0] for case in cases.listings(60, rng.randrange(2 ** 32))]
     for data in [*several, *longest_plans()]:
         with tally.case(('list', data[:40].hex())):
@@ -180,13 +210,15 @@ def graph_of(table, records):
         nodes.append((str(k), str(k), OPERATIONS[words[0]], more, TYPES[record.dtype], shape_text(record.extents), str(record.low), str(record.high),
                       f'device {record.device}' if record.device else 'no device', ', peripheries=2' if k == len(records) - 1 else ''))
         sources = [words[w] for w in (1, 2, 3) if w in model.USED_WORDS[words[0]]]
+        if words[0] == STACK:
+            sources = sources[:words[5]]
         edges += [(str(source), str(k), str(place) if len(sources) > 1 else None) for place, source in enumerate(sources, 1)]
     return nodes, edges
 
 
 def test_graphs(tally, lup, rng):
     met = set()
-    for op in [*range(21)] * 2:
+    for op in [*EVERY] * 2:
         table = cases.make_plan(rng, op, rng.randint(0, 4)).table
         lup.put('p.plan', pack(table))
         status, text, errors = lup.run('list', 'p.plan', '--dot')
@@ -199,6 +231,26 @@ def test_graphs(tally, lup, rng):
             tally.same('an edge a source', [match and match.groups() for match in found[1]], edges)
         met |= {line[2] for line in nodes}
     tally.same('every operation in a graph', met, set(OPERATIONS))
+
+
+# A table whose last node is a STACK, and the lines of its graph that lead there.
+STACKED = (
+    (PAIR + move(FLIP, 0, (1,)) + stack(2, 1, 1), ['    n1 -> n2 [label="1"];', '    n1 -> n2 [label="2"];']),
+    (PAIR + move(FLIP, 0, (1,)) + stack(2, 1, 0), ['    n1 -> n2 [label="1"];', '    n0 -> n2 [label="2"];']),
+    (PAIR + move(FLIP, 0, (1,)) + stack(3, 1, 1, 0), ['    n1 -> n2 [label="1"];', '    n1 -> n2 [label="2"];', '    n0 -> n2 [label="3"];']),
+)
+
+
+def test_stacked_graphs(tally, lup):
+    """A STACK of two has two edges, none for its word 3, which is 0 and not node 0; one of three has three."""
+    for table, edges in STACKED:
+        lup.put('p.plan', pack(table))
+        status, text, errors = lup.run('list', 'p.plan', '--dot')
+        lines = text.split('\n')
+        with tally.case(('the graph of a STACK', edges)):
+            tally.same('its edges', (status, errors, [line for line in lines if ' -> n2' in line]), (0, '', edges))
+            label = f'    n2 [label="2: STACK\\ni16 {len(edges)}x2\\n-9..9\\ndevice 1", peripheries=2];'
+            tally.same('its label', [line for line in lines if line.startswith('    n2 [')], [label])
 
 
 # --------------------------------------------------------------------- runs
@@ -276,8 +328,8 @@ def run_once(tally, lup, rng, table, values, flags):
 
 def test_runs(tally, lup, rng):
     met = set()
-    for turn in range(84):
-        plan = cases.make_plan(rng, turn % 21, rng.randint(0, 4))
+    for turn in range(4 * len(EVERY)):
+        plan = cases.make_plan(rng, turn % len(EVERY), rng.randint(0, 4))
         values, flags = cases.random_inputs(rng, plan)
         met.add(run_once(tally, lup, rng, plan.table, values, flags))
     tally.same('with and without missing files, gaps and --node', len(met) >= 6, True)
@@ -285,6 +337,34 @@ def test_runs(tally, lup, rng):
         lup.put('p.plan', pack(const(I16, -7)))
         tally.same('no PARAM', lup.run('run', 'p.plan', '-o', 'out.field'), (0, 'written: out.field, node 0 (CONST) of shape -, 0 of 1 cells are gaps\n', ''))
         tally.same('no PARAM: field', read_field(lup.get('out.field')), ((), [-7]))
+
+
+# Two PARAMs of four cells and their files; then a FILL, a KNOWN, a STACK of two and one of three, each with its numbers and its bounds by hand.
+FILLED = [(1, None, None, 4), (50, 60, None, None)]
+FILLING = param(0, U8, 0, 9, (4,)) + param(1, U8, 5, 99, (4,)) + apply(FILL, 0, 1) + apply(KNOWN, 0) + stack(2, 0, 2) + stack(3, 2, 1, 0)
+FILLING_NODES = {
+    2: ('FILL', (4,), (1, 60, None, 4), (0, 99)), 3: ('KNOWN', (4,), (1, 0, 0, 1), (0, 1)), 4: ('STACK', (2, 4), (1, None, None, 4, 1, 60, None, 4), (0, 99)),
+    5: ('STACK', (3, 4), (1, 60, None, 4, 50, 60, None, None, 1, None, None, 4), (0, 99))}
+
+
+def test_filling(tally, lup):
+    """FILL, KNOWN and STACK in a run, and the lookups that stop at them, also where a movement leads there."""
+    for slot, cells in enumerate(FILLED):
+        lup.put(f'in-{slot}.field', field_bytes((4,), cells))
+    turned = move(FLIP, 2, (1,)) + move(RESHAPE, 3, (2, 2)) + move(SHRINK, 4, (1, 4), (1, 0))
+    lup.put('p.plan', pack(FILLING + turned))
+    for number, (name, extents, cells, bounds) in FILLING_NODES.items():
+        with tally.case((name, cells)):
+            told = f'written: out.field, node {number} ({name}) of shape {shape_text(extents)}, {cells.count(None)} of {len(cells)} cells are gaps\n'
+            tally.same('the run', lup.run('run', 'p.plan', 'in-0.field', 'in-1.field', '-o', 'out.field', '--node', str(number)), (0, told, ''))
+            tally.same('its field', lup.get('out.field'), field_bytes(extents, cells, bounds))
+    for words, line in (((2, 1), 'node 2 element 1: FILL of shape 4, column 1'), ((3, 2), 'node 3 element 2: KNOWN of shape 4, column 2'),
+                        ((4, 5), 'node 4 element 5: STACK of shape 2x4, row 1 column 1'), ((5, 11), 'node 5 element 11: STACK of shape 3x4, row 2 column 3'),
+                        ((6, 0), 'node 2 element 3: FILL of shape 4, column 3'), ((7, 2), 'node 3 element 2: KNOWN of shape 4, column 2'),
+                        ((8, 1), 'node 4 element 5: STACK of shape 2x4, row 1 column 1')):
+        tally.same(('lookup', words), lup.run('lookup', 'p.plan', *map(str, words)), (0, line + '\n', ''))
+    tally.same('no element past a STACK', lup.run('lookup', 'p.plan', '4', '8')[2],
+               f'lup: p.plan: refused 17: {RULES[17]}: no element 8 in node 4 (STACK), its last is 7\n')
 
 
 def test_large_run(tally, lup, rng):
@@ -462,7 +542,7 @@ def test_report(tally, lup):
 def test_limits(tally, lup, rng):
     """16 names the file, the PARAM, the element and the limits; numbers under gaps are not looked at."""
     for turn in range(40):
-        plan = cases.make_plan(rng, turn % 21, rng.randint(0, 4))
+        plan = cases.make_plan(rng, turn % len(EVERY), rng.randint(0, 4))
         values, flags = cases.random_inputs(rng, plan)
         bad = rng.randrange(len(values))
         values[bad], flags[bad] = rng.choice((2 ** 63 - 1, -2 ** 63, 2 ** 31, -2 ** 31 - 1)), 1
@@ -1551,7 +1631,7 @@ def changed(rng, data):
 
 def test_damaged_plans(tally, lup, rng, count):
     met = set()
-    plans = [pack(cases.make_plan(rng, op, rng.randint(0, 4)).table) for op in range(21)]
+    plans = [pack(cases.make_plan(rng, op, rng.randint(0, 4)).table) for op in EVERY]
     for turn in range(count):
         data = changed(rng, rng.choice(plans))
         lup.put('p.plan', data)
@@ -1630,7 +1710,7 @@ def test_random_calls(tally, lup, rng, count):
     """Any words: an exit status with or without a message, and no file but one that is told as written."""
     files = {'p.plan': pack(PADDED), 'join.plan': pack(PAIR + param(1, I16, -9, 9, (2,)) + apply(ADD, 0, 1)), 'bad.plan': b'\1\0\4',
              'a.field': field_bytes((2,), [7, None]), 'b.field': field_bytes((2,), [50, 0]), 'six.field': field_bytes((2, 3), [1, 2, None, 4, 5, 6]),
-             't.table': TABLE, 'bad.table': TABLE.replace(b'6 0', b'21 0')}
+             't.table': TABLE, 'bad.table': TABLE.replace(b'6 0', b'24 0')}
     met = set()
     os.mkdir(lup.at('sub'))
     for name in os.listdir(lup.folder):
@@ -1673,7 +1753,7 @@ def main():
         for test in (test_refusals, test_wording, test_plan_text, test_missing, test_not_missing, test_damaged_as_gaps, test_report, test_damaged_fields,
                      test_output, test_closed_folder, test_full, test_modes, test_taken, test_left, test_signals, test_synced,
                      test_standard_input, test_standard_output, test_lost_streams, test_slow_reader, test_broken_input, test_forms, test_misuse,
-                     test_version, test_help, test_words):
+                     test_version, test_help, test_words, test_stacked_graphs, test_filling):
             test(tally, lup)
         for test in (test_lists, test_graphs, test_runs, test_large_run, test_limits, test_lookups, test_shown, test_scales, test_svg, test_png, test_large_svg,
                      test_round_trip):

@@ -480,7 +480,7 @@ def test_search(tally, folder):
     cannot = f"ImportError: lupetzarin: the library 'liblupetzarin.so.{major()}' cannot be loaded: "
     tally.same('nowhere', imported(tree)[:len(cannot)], cannot)
     for number, text in ((first + 1000000, f'{int(major()) + 1}.0.0'), (first - 1, f'{int(major()) - 1}.999.999'), (first + 1002003, f'{int(major()) + 1}.2.3'),
-                         (0, '0.0.0'), (4001000, '4.1.0')):
+                         (0, '0.0.0'), (4001000, '4.1.0'), (5000000, '5.0.0')):
         tally.same(text, *refused_by(tree, tree, number, text, version()))
     later = f'{major()}.{least // 1000 % 1000 + 1}.0'
     put(read('python', 'lupetzarin.py').replace(f"__version__ = '{version()}'", f"__version__ = '{later}'"), folder, 'later/python/lupetzarin.py')

@@ -20,9 +20,9 @@ import cases  # noqa: E402
 import model  # noqa: E402
 from cases import apply, const, node  # noqa: E402
 from counting import Cases  # noqa: E402
-from model import ADD, PAD, PARAM, USED_WORDS  # noqa: E402
+from model import ADD, FILL, KNOWN, PAD, PARAM, STACK, USED_WORDS  # noqa: E402
 from program import QUICK, Program  # noqa: E402
-from test_host import PADDED, REFUSED_BYTES, REFUSED_TABLES, changed  # noqa: E402
+from test_host import FILLING, PADDED, REFUSED_BYTES, REFUSED_TABLES, changed  # noqa: E402
 from wording import OPERATIONS, RULES, TABLE_RULES  # noqa: E402
 
 LEAST, MOST = -17179869184, 17179869183
@@ -31,6 +31,9 @@ GREATEST = 2 ** 63 - 1
 ENDS = sorted({sign * 2 ** k + more for k in (0, 6, 13, 20, 27) for sign in (1, -1) for more in (-1, 0, 1)} | {LEAST, LEAST + 1, MOST - 1, MOST})
 OUTSIDE = (LEAST - 1, MOST + 1, -GREATEST - 1, GREATEST)
 OLD = b'what was there'
+# What a file of the second edition begins with, and the least number that is no operation.
+SECOND = b'\0\2'
+UNKNOWN = len(OPERATIONS)
 
 
 # ------------------------------------------------------- what has to be said
@@ -49,7 +52,7 @@ def packed(table):
     if not 1 <= len(nodes_of(table)) <= 256:
         return 1, 0, 0
     for place, words in enumerate(nodes_of(table)):
-        if not 0 <= words[0] <= 20:
+        if not 0 <= words[0] < UNKNOWN:
             return 2, place, 0
         used = USED_WORDS[words[0]]
         for number, wrong in ((3, [k for k in range(1, 17) if k not in used and words[k] != 0]),
@@ -95,7 +98,7 @@ def wanted_pack(name, data, written):
     if number == 1:
         return 1, '', f'{rule}: {TABLE_RULES[1]}: {count} nodes are read\n', None
     words = nodes_of(table)[place]
-    operation = OPERATIONS[words[0]] if 0 <= words[0] <= 20 else 'unknown operation'
+    operation = OPERATIONS[words[0]] if 0 <= words[0] < UNKNOWN else 'unknown operation'
     return 1, '', f'{rule} at node {place} ({operation}): {TABLE_RULES[number]}: word {word} is {words[word]} (line {lines[place]})\n', None
 
 
@@ -123,35 +126,39 @@ def test_pack(tally, lup, data, environment=QUICK):
 # -------------------------------------------------------------- round trips
 
 def random_table(rng):
-    """Nodes of any operations and words that can be packed; few of them make a plan that is accepted."""
-    table = []
+    """Nodes of any operations, or of those of the first edition, and words that can be packed; few of them make a plan that is accepted."""
+    table, limit = [], rng.choice((FILL, UNKNOWN))
     for _ in range(rng.choice((1, 2, 3, 5, rng.randint(1, 256)))):
-        op = rng.randrange(21)
+        op = rng.randrange(limit)
         table += node(op, {word: rng.choice((0, 1, rng.choice(ENDS), rng.randint(-300, 300), rng.randint(LEAST, MOST))) for word in USED_WORDS[op]})
     return table
 
 
 def tables(rng, count):
     """Every operation with each end in all its words; the shortest and the longest; plans that the check refuses; any."""
-    for op in range(21):
+    for op in range(UNKNOWN):
         for word in (0, LEAST, MOST):
             yield node(op, dict.fromkeys(USED_WORDS[op], word))
-    yield sum((node(op, dict(zip(USED_WORDS[op], ENDS[op:]))) for op in range(21)), [])
-    for op in (ADD, PAD, PARAM):
+    for limit in (FILL, UNKNOWN):
+        yield sum((node(op, dict(zip(USED_WORDS[op], ENDS[op:]))) for op in range(limit)), [])
+    for op in (ADD, PAD, PARAM, KNOWN, STACK):
         for word in (0, MOST):
             yield node(op, dict.fromkeys(USED_WORDS[op], word)) * 256
+    yield node(PAD, dict.fromkeys(USED_WORDS[PAD], MOST)) * 255 + node(STACK, dict.fromkeys(USED_WORDS[STACK], LEAST))
+    yield FILLING
     yield from (table for _, _, table in REFUSED_TABLES)
     yield from (random_table(rng) for _ in range(count))
 
 
 def test_round_trips(tally, lup, rng, count):
-    """There and back, by files and by standard streams; the same bytes, the same text, and the same table by the model."""
-    lengths = set()
+    """There and back, by files and by standard streams; the same bytes, the same text, and the same table by the model; the edition by the operations."""
+    lengths = {False: set(), True: set()}
     for table in tables(rng, count):
-        text, data = text_of(table), packed(table)
-        lengths.add(len(data))
+        text, data, second = text_of(table), packed(table), max(words[0] for words in nodes_of(table)) > 20
+        lengths[second].add(len(data))
         test_pack(tally, lup, text.encode())
         with tally.case(('unpack', text[:120])):
+            tally.same('its edition', lup.get('t.plan')[:2] == SECOND, second)
             tally.same('unpacked', lup.run('unpack', 't.plan', environment=QUICK), (0, text, ''))
             read = [7] * len(table)
             tally.same('by the model', (model.unpack(data, read), read), ((0, 0, len(table) // 17), table))
@@ -164,7 +171,35 @@ def test_round_trips(tally, lup, rng, count):
             tally.same('the same bytes', lup.get('u.plan'), lup.get('t.plan'))
         for name in ('u.table', 'u.plan'):
             os.remove(lup.at(name))
-    tally.same('the shortest and the longest', (min(lengths), max(lengths)), (4, 11778))
+    for second, wanted in ((False, (4, 11778)), (True, (5, 11755))):
+        tally.same(('the shortest and the longest, second edition', second), (min(lengths[second]), max(lengths[second])), wanted)
+
+
+# A text for lup pack, the file that it has to write, and what is said of the same nodes in the other edition; by hand.
+BY_HAND = (
+    ('0 0 0 0 2 5 0 0 0 0 0 0 0 0 0 0 0\n', '01 00 04 0A', 'refused 26 at byte 0'),
+    ('22 0 0 0 0 0 0 0 0 0 0 0 0 0 0 0 0\n', '00 02 01 16 00', 'refused 24 at byte 1'),
+    ('0 0 0 0 2 5 0 0 0 0 0 0 0 0 0 0 0\n21 0 1 0 0 0 0 0 0 0 0 0 0 0 0 0 0\n', '00 02 02 00 04 0A 15 00 02', 'refused 24 at byte 4'),
+    ('23 64 -1 -2 0 3 0 0 0 0 0 0 0 0 0 0 0\n9 0 0 0 0 0 0 0 0 0 0 0 0 0 0 0 0\n', '00 02 02 17 80 01 01 03 06 09 00 00', 'refused 24 at byte 1'),
+)
+
+
+def test_by_hand(tally, lup):
+    """Both editions byte for byte; a plan without a new operation in a file of the second edition is refused, and one with it in a file of the first."""
+    for text, written, refusal in BY_HAND:
+        data = bytes.fromhex(written)
+        with tally.case(('by hand', text)):
+            test_pack(tally, lup, text.encode())
+            tally.same('packed', lup.get('t.plan'), data)
+            tally.same('unpacked', lup.run('unpack', 't.plan'), (0, text, ''))
+            lup.put('t.plan', other_edition(data))
+            status, _, errors = lup.run('unpack', 't.plan')
+            tally.same('in the other edition', (status, errors.split(': ')[2]), (1, refusal))
+
+
+def other_edition(data):
+    """The bytes of a plan with what begins a file of the second edition in front, or without it where it stands there."""
+    return data.removeprefix(SECOND) if data[:2] == SECOND else SECOND + data
 
 
 def forms(rng, table):
@@ -209,7 +244,7 @@ def test_page(tally, lup):
 def refused_tables():
     """Number, place, word, table: each rule at each word that can break it, and the order of the rules."""
     good, wide = const(2, 5), node(0, {4: 2, 5: MOST + 1})
-    for op in (-1, 21, -GREATEST - 1, GREATEST):
+    for op in (-1, UNKNOWN, -GREATEST - 1, GREATEST):
         yield 2, 1, 0, good + node(op)
         yield 2, 0, 0, node(op, dict.fromkeys(range(1, 17), GREATEST))
     for op, used in enumerate(USED_WORDS):
@@ -220,10 +255,10 @@ def refused_tables():
                 yield 3, 0, word, node(op, {**dict.fromkeys(used, GREATEST), word: (1, -1)[word % 2]})
         yield 25, 0, used[0], node(op, dict.fromkeys(used, LEAST - 1))
         yield 25, 0, used[-1], node(op, {**dict.fromkeys(used, LEAST), used[-1]: MOST + 1})
-    yield 25, 0, 5, wide + node(21)
+    yield 25, 0, 5, wide + node(UNKNOWN)
     yield 25, 0, 5, wide + apply(ADD, 0, 0, 1)
     yield 3, 0, 3, apply(ADD, 0, 0, 1) + wide
-    yield 2, 0, 0, node(21) + wide
+    yield 2, 0, 0, node(UNKNOWN) + wide
     yield 25, 255, 5, good * 255 + wide
 
 
@@ -314,7 +349,7 @@ def test_wrong_texts(tally, lup):
 def test_damaged_texts(tally, lup, rng, count):
     """Texts with bytes changed, put in, taken out, cut off or appended, or with a number that is another: packed, refused or no table."""
     met = set()
-    parts = [b' ', b'\n', b'#', b'-', b'0', b'9', b'\t', b'\r\n', b' 0', *(str(number).encode() + b' ' for number in (*OUTSIDE, LEAST, MOST, 21, 2 ** 63))]
+    parts = [b' ', b'\n', b'#', b'-', b'0', b'9', b'\t', b'\r\n', b' 0', *(str(number).encode() + b' ' for number in (*OUTSIDE, LEAST, MOST, UNKNOWN, 2 ** 63))]
     for _ in range(count):
         data = text_of(random_table(rng)[:17 * rng.randint(1, 4)]).encode()
         if rng.random() < 0.5:
@@ -324,7 +359,7 @@ def test_damaged_texts(tally, lup, rng, count):
             data = data[:at] + rng.choice(parts) + data[at:]
         if rng.random() < 0.5:
             numbers = data.split(b' ')
-            numbers[rng.randrange(len(numbers))] = str(rng.choice((*OUTSIDE, LEAST, MOST, 1, 21))).encode()
+            numbers[rng.randrange(len(numbers))] = str(rng.choice((*OUTSIDE, LEAST, MOST, 1, UNKNOWN))).encode()
             data = b' '.join(numbers)
         met.add(test_pack(tally, lup, data))
     wanted = {(0, ''), (2, ''), *((1, f'lup: t.table: refused {number}') for number in (2, 3, 25))}
@@ -334,7 +369,8 @@ def test_damaged_texts(tally, lup, rng, count):
 def test_damaged_plans(tally, lup, rng, count):
     met = set()
     for _ in range(count):
-        data = changed(rng, packed(random_table(rng)[:17 * rng.randint(1, 4)]))
+        data = packed(random_table(rng)[:17 * rng.randint(1, 4)])
+        data = changed(rng, data) if rng.random() < 0.8 else other_edition(data)
         lup.put('t.plan', data)
         wanted = wanted_unpack('t.plan', data)
         met.add(wanted[2][:31])
@@ -342,7 +378,7 @@ def test_damaged_plans(tally, lup, rng, count):
             tally.same('unpacked', lup.run('unpack', 't.plan', environment=QUICK), wanted)
             if wanted[0] == 0:
                 tally.same('the same bytes', packed(read_text('', wanted[1].encode())[0]), data)
-    tally.holds('unpacked, and every refusal', len({message[:23] for message in met}) == 6 or count < 300, met)
+    tally.holds('unpacked, and every refusal', len({message[:23] for message in met}) == 7 or count < 300, met)
 
 
 def main():
@@ -353,7 +389,7 @@ def main():
         lup = Program(path, folder)
         test_round_trips(tally, lup, rng, count // 6)
         test_forms(tally, lup, rng)
-        for test in (test_page, test_refusals, test_wrong_texts):
+        for test in (test_page, test_by_hand, test_refusals, test_wrong_texts):
             test(tally, lup)
         for test in (test_damaged_texts, test_damaged_plans):
             test(tally, lup, rng, count)

@@ -6,7 +6,8 @@ from math import prod
 
 import model
 
-OPERATIONS = ('CONST PARAM PERMUTE FLIP RESHAPE EXPAND PAD SHRINK CAST ADD MUL MAX IDIV MOD CMPLT CMPNE AND OR WHERE REDUCE LOAD').split()
+OPERATIONS = ('CONST PARAM PERMUTE FLIP RESHAPE EXPAND PAD SHRINK CAST ADD MUL MAX IDIV MOD CMPLT CMPNE AND OR WHERE REDUCE LOAD'
+              ' FILL KNOWN STACK').split()
 TYPES = ('bool', 'u8', 'i16', 'i32')
 SHADES = '.:-=+*#%@'
 LARGE = 1048576
@@ -28,13 +29,14 @@ RULES = {
     20: 'bytes end before or inside a number',
     21: 'number not in its shortest form of at most 5 bytes',
     22: 'bytes left over',
-    23: 'node count not 1..256',
-    24: 'operation not 0..20',
+    23: 'node count not 1..256, or a first byte 0 without a 2 after it',
+    24: 'operation not 0..20, in a second edition file not 0..23',
+    26: 'second edition file with no operation 21..23',
 }
 # The refusals of a table that is to be packed; 14 is the program's own room.
 TABLE_RULES = {
     1: 'length no multiple of 17, or not 1..256 nodes',
-    2: 'operation not 0..20',
+    2: 'operation not 0..23',
     3: 'unused word not zero',
     25: 'a used word not in -17179869184..17179869183',
 }
@@ -49,7 +51,10 @@ ROWS = {
     'SHRINK': 'no shape, or an offset not 0..1048576 or past the rank',
     'REDUCE': 'number neither 0 nor 1, or not a flag 0 or 1 for each axis of the source',
     'LOAD': 'device not 1..255',
+    'STACK': 'number neither 2 nor 3, or word 3 not 0 with number 2',
 }
+# What rule 8 asks of an operation, where its words do not say all of it.
+SHAPES = {'STACK': 'sources not of one shape, of a rank over 3, or of over 1048576 elements together'}
 
 
 def shape_text(extents):
@@ -68,8 +73,8 @@ def refusal_text(name, data):
     table = [0] * (17 * 256)
     model.unpack(data, table)
     operation = OPERATIONS[table[17 * place]]
-    row = ': ' + ROWS[operation] if number == 7 else ''
-    return f'lup: {name}: refused {number} at node {place} ({operation}): {RULES[number]}{row}\n'
+    more = {7: ROWS, 8: SHAPES}.get(number, {}).get(operation, '')
+    return f'lup: {name}: refused {number} at node {place} ({operation}): {RULES[number]}{": " * bool(more)}{more}\n'
 
 
 def position_text(name, files, table, values, place):

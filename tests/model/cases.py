@@ -11,15 +11,18 @@ from math import prod
 from random import Random
 
 import model
-from model import (ADD, AND, CAST, CMPLT, CMPNE, CONST, EXPAND, FLIP, IDIV, LOAD, MAX,
-                   MOD, MUL, OR, PAD, PARAM, PERMUTE, REDUCE, RESHAPE, SHRINK, WHERE)
+from model import (ADD, AND, CAST, CMPLT, CMPNE, CONST, EXPAND, FILL, FLIP, IDIV, KNOWN, LOAD, MAX,
+                   MOD, MUL, OR, PAD, PARAM, PERMUTE, REDUCE, RESHAPE, SHRINK, STACK, WHERE)
 
 BIG = 2 ** 63
 LARGE = 1048576
+OPERATIONS = len(model.USED_WORDS)
+# The least number that is no operation.
+UNKNOWN = OPERATIONS
 LIMITS = sorted({e + d for low_high in model.TYPE_LIMITS.values()
                  for e in low_high for d in (-1, 0, 1)})
-EDGES = sorted({*LIMITS, -BIG, BIG - 1, 2, 3, 4, 15, 16, 17, 20, 21, LARGE - 1, LARGE,
-                LARGE + 1, 2 ** 32, -2 ** 32, 2 ** 62})
+EDGES = sorted({*LIMITS, -BIG, BIG - 1, 2, 3, 4, 15, 16, 17, 20, 21, UNKNOWN - 1, UNKNOWN, LARGE - 1,
+                LARGE, LARGE + 1, 2 ** 32, -2 ** 32, 2 ** 62})
 SMALL_INTERVALS = [(0, 1), (1, 1), (0, 0), (1, 3), (2, 2), (0, 5), (4, 9), (-3, -1),
                    (-7, 7), (-5, -2), (-1, -1), (-4, 10), (-1, 0)]
 
@@ -90,6 +93,10 @@ def load(source, device):
     return node(LOAD, {1: source, 6: device})
 
 
+def stack(*sources):
+    return node(STACK, {**row(1, sources), 5: len(sources)})
+
+
 def reduce_node(source, number, flags):
     return node(REDUCE, {1: source, 5: number, **row(9, flags)})
 
@@ -100,18 +107,21 @@ def at_axis(axis, item, others=0):
 
 
 def smallest(op, words):
-    """A CONST of 1 and a node on it with these words, all others 0 but the device that PARAM and LOAD need."""
-    device = {6: 9} if op in (PARAM, LOAD) else {}
-    return const(0 if op in (AND, OR, WHERE) else 2, 1) + node(op, {**device, **words})
+    """A CONST of 1 and a node on it with these words, all others 0 but the device that PARAM and LOAD need, and the
+    number that STACK needs."""
+    needed = {PARAM: {6: 9}, LOAD: {6: 9}, STACK: {5: 2}}.get(op, {})
+    return const(0 if op in (AND, OR, WHERE) else 2, 1) + node(op, {**needed, **words})
 
 
 def packed_numbers(table):
-    """The plain numbers of a packed plan; no rule is asked of the table."""
-    numbers = [len(table) // 17]
+    """The plain numbers of a packed plan, the first two those of its edition where it is the second; no rule is asked
+    of the table."""
+    numbers = [0, 2] if {*table[::17]} & {*model.NEW} else []
+    numbers.append(len(table) // 17)
     for first in range(0, len(table), 17):
         words = table[first:first + 17]
         numbers.append(words[0])
-        if words[0] <= 20:
+        if words[0] < OPERATIONS:
             used = [words[w] for w in model.USED_WORDS[words[0]]]
             numbers += [2 * n if n >= 0 else -2 * n - 1 for n in used]
     return numbers
@@ -207,7 +217,12 @@ def propose(rng, plan, op, base):
         return reduce_node(pick, rng.randint(0, 1), random_row(rng, op, source.extents)[0])
     if PERMUTE <= op <= SHRINK:
         return move(op, pick, *random_row(rng, op, source.extents))
+    if op == KNOWN:
+        return apply(op, pick)
     alike = [k for k, r in enumerate(plan.records) if r.dtype == source.dtype]
+    if op == STACK:
+        same = [k for k in alike if plan.records[k].extents == source.extents]
+        return stack(pick, *rng.choices(same, k=rng.randint(1, 2)))
     if op != WHERE:
         return apply(op, pick, rng.choice(alike))
     bools = [k for k, r in enumerate(plan.records) if r.dtype == 0]
@@ -224,11 +239,11 @@ def make_plan(rng, op, rank):
             dtype = rng.choice((main, main, main, 0, rng.randint(0, 3)))
             plan.add(random_param(rng, plan, dtype, base))
         for _ in range(rng.randint(0, 3) if plan.records else 0):
-            plan.add(propose(rng, plan, rng.randrange(21), base))
+            plan.add(propose(rng, plan, rng.randrange(OPERATIONS), base))
         tries = range(30 if plan.records else 0)
         if any(plan.add(propose(rng, plan, op, base)) for _ in tries):
             for _ in range(rng.randint(0, 4)):
-                plan.add(propose(rng, plan, rng.randrange(21), base))
+                plan.add(propose(rng, plan, rng.randrange(OPERATIONS), base))
             return plan
 
 
@@ -255,7 +270,7 @@ def valid_plans(count, seed):
     rng = Random(f'valid {seed}')
     made = 0
     for turn in count_from():
-        op, rank = turn % 21, (turn // 21 + turn) % 5
+        op, rank = turn % OPERATIONS, turn % 5
         plan = make_plan(rng, op, rank)
         note = f'valid op {op} rank {rank}'
         yield run_case(plan, *random_inputs(rng, plan, rng.choice((0, 0.1, 0.4))), note,
@@ -281,6 +296,13 @@ DIVIDE = {6: [{(2, 'dtype'): 2}], 8: SHAPES, 9: DEVICES, 10: [{(2, 'high'): 0}]}
 LOGIC = {6: [{(2, 'dtype'): 1}, {(1, 'dtype'): 3, (2, 'dtype'): 3}], 8: SHAPES, 9: DEVICES}
 NEGATIVE = {(2, 'low'): -1, (2, 'high'): -1}
 PAST_RANK = [{11: 1}, {12: 1}]
+
+
+def same_shape(extents):
+    """The change of three sources to one shape."""
+    return {(source, 'extents'): extents for source in (1, 2, 3)}
+
+
 DRAFTS = {
     CONST: ({4: 2, 5: 5}, {5: [{4: 4}, {4: -1}], 11: [{5: BIG - 1}, {5: -32768}]}),
     PARAM: ({4: 3, 5: 0, 6: 1, 7: -4, 8: 10, 9: 2, 10: 3},
@@ -316,6 +338,14 @@ DRAFTS = {
     REDUCE: ({9: 1}, {6: [{(1, 'dtype'): 0}], 11: [{(1, 'high'): I32_HIGH}],
                       7: [{5: 2}, {5: -1}, {10: 2}, *PAST_RANK]}),
     LOAD: ({6: 9}, {7: [{6: 0}, {6: 256}]}),
+    FILL: ({}, {6: [{(2, 'dtype'): 2}, {(1, 'dtype'): 0}], 8: SHAPES, 9: DEVICES}),
+    KNOWN: ({}, {}),
+    # With another number than 3 word 3 names no source, so a change of the number is one of word 3 too.
+    STACK: ({5: 3}, {6: [{(2, 'dtype'): 2}, {(1, 'dtype'): 0}],
+                     7: [{3: 0, 5: number} for number in (0, 1, 4, -1, -BIG, BIG - 1)]
+                     + [{3: word, 5: 2} for word in (1, 2, 3, -1, BIG - 1)],
+                     8: [*SHAPES, {(1, 'extents'): (1, 3)}, {(2, 'extents'): (3,)}, same_shape((1, 1, 2, 3)),
+                         same_shape((512, 1024))], 9: DEVICES}),
 }
 
 
@@ -339,7 +369,7 @@ def breaks_of(op):
     base, breaks = DRAFTS[op]
     unused = [w for w in range(1, 17) if w not in model.USED_WORDS[op]]
     sources = [w for w in (1, 2, 3) if w not in unused]
-    found = [(2, {0: 21}), (2, {0: -1}), (3, {unused[0]: 1}), (3, {unused[-1]: -BIG})]
+    found = [(2, {0: UNKNOWN}), (2, {0: -1}), (3, {unused[0]: 1}), (3, {unused[-1]: -BIG})]
     found += [(4, {sources[-1]: v}) for v in (len(sources), -1, BIG - 1)] if sources else []
     return found + [(rule, b) for rule, several in breaks.items() for b in several]
 
@@ -390,7 +420,7 @@ def edge_words(count, seed):
     rng = Random(f'edges {seed}')
     with_numbers = [op for op in DRAFTS if max(model.USED_WORDS[op]) > 3]
     for turn in range(count):
-        op = turn // 4 % 21 if turn % 4 == 0 else rng.choice(with_numbers)
+        op = turn // 4 % OPERATIONS if turn % 4 == 0 else rng.choice(with_numbers)
         words = [w for w in model.USED_WORDS[op] if w > 3] or model.USED_WORDS[op]
         words = rng.choices(words, k=rng.choice((1, 1, 1, 2)))
         if rng.random() < 0.15:
@@ -405,13 +435,13 @@ def interval_cases(count, seed):
     rng = Random(f'intervals {seed}')
     ends = {t: [e for e in (*LIMITS, -7, -3, -2, 2, 5, 9, 16, -46341, 46341) if lo <= e <= hi]
             + [lo, lo + 1, hi - 1, hi] * 3 for t, (lo, hi) in model.TYPE_LIMITS.items()}
-    ops = (ADD, MUL, MAX, IDIV, MOD, CMPLT, CMPNE, WHERE, REDUCE, CAST, AND, OR,
+    ops = (ADD, MUL, MAX, IDIV, MOD, CMPLT, CMPNE, WHERE, REDUCE, CAST, AND, OR, FILL, STACK,
            ADD, MUL, IDIV, CAST)
     for turn in range(count):
         op = ops[turn % len(ops)]
-        dtype = 0 if op in (AND, OR) else rng.randint(0 if op in (CMPNE, WHERE, CAST) else 1, 3)
+        dtype = 0 if op in (AND, OR) else rng.randint(0 if op in (CMPNE, WHERE, CAST, FILL, STACK) else 1, 3)
         small = rng.random() < 0.3
-        words = {4: rng.randint(0, 3)} if op == CAST else {}
+        words = {CAST: {4: rng.randint(0, 3)}, STACK: {5: 3}}.get(op, {})
         if op == REDUCE:
             words = {5: rng.randint(0, 3) // 3, 9: rng.randint(0, 1), 10: rng.randint(0, 1)}
         for source in (1, 2, 3):
@@ -512,7 +542,7 @@ def buffer_cases(count, seed):
 
     def several():
         while True:
-            plan = make_plan(rng, rng.randrange(21), rng.randint(0, 4))
+            plan = make_plan(rng, rng.randrange(OPERATIONS), rng.randint(0, 4))
             nodes, data = len(plan.records), pack(plan.table)
             for more in (0, -1, 5):
                 yield Case('unpack', (data, 17 * nodes + more), f'room {more}')
@@ -551,7 +581,7 @@ def run_inputs(count, seed):
         yield Case('run', (over, values, flags, 1, 1), 'over in all')
     for turn in range(count):
         while True:
-            plan = make_plan(rng, rng.randrange(21), rng.randint(1, 4))
+            plan = make_plan(rng, rng.randrange(OPERATIONS), rng.randint(1, 4))
             values, flags = random_inputs(rng, plan)
             if len(values) >= 2:
                 break
@@ -576,7 +606,7 @@ def run_inputs(count, seed):
 
 FAULTY_NUMBERS = [bytes.fromhex(text) for text in (
     '8080808080', 'ffffffff8000', 'ffffffff7f', 'feffffff7f', '80808080', '8000', '8080808000',
-    '15', '7f', '9501', '9500', 'ffff03', '')]
+    '15', '18', '7f', '9501', '9500', 'ffff03', '')]
 FIXED_BYTES = [bytes.fromhex(text) for text in (
     '', '00', '01', '80', '8000', '8100', '8102', '8002', '80808080', '8080808080', '8080808000',
     'ffffffffff', 'ffffffff7f', '0115', '0100', '010004', '0100040a', '0100040a00', '010004d804',
@@ -589,6 +619,25 @@ ORDERED_BYTES = [(bytes.fromhex(text), room) for text, room in (
     ('018000', 16), ('0195', 17), ('019500', 17), ('0115808080', 17), ('0100040a15', 16),
     ('0100040a15', 17), ('0200040a15', 33), ('0200040a15', 34), ('0200040a158000', 34),
     ('02008000000a15', 34), ('8002', 4351), ('8002', 4352), ('80028000', 4352))]
+
+# (02) "A second edition file starts with bytes 00 02, then count and nodes as before": accepted; the leading bytes;
+# 20, 21, 23 and 14 of its count; 24 of both editions, by each operation about their limits; 26 and what comes before it.
+EDITION_BYTES = [(bytes.fromhex(text), room) for text, room in (
+    ('000202 00040a 150000', 34), ('000202 00040a 1600', 40), ('000202 00040a 1700000004', 34),
+    ('000202 00040a 1700000206', 34), ('000203 00040a 1600 00040a', 51), ('000201 1600', 17), ('000201 1600', 16),
+    ('0000', 40), ('0001', 40), ('0003', 40), ('00ff', 40), ('00', 0), ('0003', 0), ('008200', 0),
+    ('000301 1600', 40), ('000101 1600', 40), ('008200 01 1600', 40), ('00000201 1600', 40),
+    ('00010401 1600', 40), ('0002', 0), ('0002', 40), ('000280', 40), ('00028000', 0), ('00028080808080', 40),
+    ('000200', 40), ('000200', 0), ('000200021600', 40), ('00028102', 40), ('0002ffffffff7f', 40),
+    ('00028002', 4351), ('00028002', 4352), ('000201', 16), ('000201', 17), ('000201 80', 17), ('000202 1600', 34),
+    ('000201 18', 17), ('000201 19', 17), ('000201 17', 17), ('000201 18', 16), ('000201 9800', 17),
+    ('000201 98', 17), ('000202 00040a 18', 34), ('000202 1600 18', 34), ('000201 9501', 17), ('000201 9801 00', 17),
+    ('01 150000', 17), ('01 1600', 17), ('01 1700000004', 17), ('02 00040a 1600', 34), ('02 00040a 1500', 34),
+    ('01 1600', 16), ('01 9600', 17), ('01 1680', 17), ('01 00040a 1600', 17), ('000201 00040a', 17),
+    ('000201 140002', 17), ('000202 00040a 14002a', 34), ('000201 00040a', 16), ('000201 00040a 00', 17),
+    ('000201 00040a 1600', 17), ('000201 00040a', 40), ('000201 0004', 17), ('000201 00840000', 17),
+    ('000202 00040a', 34), ('000201 1600 00', 17), ('000201 1600 16', 17), ('000201 1680', 17),
+    ('000201 168000', 17))]
 
 
 def spoilt_bytes(rng, data_numbers):
@@ -613,7 +662,7 @@ def byte_strings(rng):
     for cut in range(len(data) + 1):
         yield f'cut at {cut}', data[:cut]
     while True:
-        plan = make_plan(rng, rng.randrange(21), rng.randint(0, 4))
+        plan = make_plan(rng, rng.randrange(OPERATIONS), rng.randint(0, 4))
         numbers = packed_numbers(plan.table)
         data = pack(plan.table)
         yield 'whole', data
@@ -657,18 +706,20 @@ def packed_plans(count, seed):
 # -------------------------------------------------- lookups and listings
 
 def movement_plan(rng, op):
-    """A PARAM under a chain of movements, LOADs and a rare CAST, the op among them."""
+    """A PARAM under a chain of movements, LOADs and a rare CAST or new operation, the op among them."""
     while True:
         plan = Plan(150)
         rank = rng.randint(0 if op in (RESHAPE, LOAD) else 1, 4)
         extents = [rng.choice((1, 2, 3)) for _ in range(rank)]
         plan.add(param(0, 2, -5, 5, extents))
-        chain = [op, *rng.choices([*range(PERMUTE, CAST), LOAD, CAST], k=rng.randint(1, 5))]
+        chain = [op, *rng.choices([*range(PERMUTE, CAST), LOAD, rng.choice((CAST, *model.NEW))], k=rng.randint(1, 5))]
         for step in rng.sample(chain, len(chain)):
             last = len(plan.records) - 1
             source = last if rng.random() < 0.9 else rng.randint(0, last)
             if step == CAST:
                 plan.add(node(CAST, {1: source, 4: rng.choice((2, 3))}))
+            elif step in model.NEW:
+                plan.add(propose(rng, plan, step, extents))
             elif step == LOAD:
                 plan.add(load(source, rng.randint(1, 255)))
             else:
@@ -700,7 +751,7 @@ def lookups(count, seed):
         if turn % 9 == 8:
             node_number = rng.choice((last + 1, last + 2, 256, *huge))
         if turn % 11 == 10:
-            table, note = table + rng.choice((node(21), const(0, 2), [0])), 'refused plan'
+            table, note = table + rng.choice((node(UNKNOWN), const(0, 2), [0])), 'refused plan'
         yield Case('lookup', (table, node_number, element), note)
 
 
@@ -717,7 +768,7 @@ def listings(count, seed):
         if turn < len(fixed):
             data = fixed[turn]
         elif turn % 2:
-            data = pack(make_plan(rng, rng.randrange(21), 4).table)
+            data = pack(make_plan(rng, rng.randrange(OPERATIONS), 4).table)
         else:
             data = next(strings)[1]
         yield Case('listing', (data,), 'listing')
@@ -737,6 +788,7 @@ def type_tables():
     for op in model.BINARY:
         for first, second in ((0, 0), (0, 3), (3, 0)):
             yield draft(op, {(1, 'dtype'): first, (2, 'dtype'): second})
+    yield from (draft(op, {(1, 'dtype'): 3, (2, 'dtype'): 3}) for op in (AND, OR))
     for several in ((1, 3, 3), (0, 0, 3), (0, 3, 0), (0, 0, 0)):
         yield draft(WHERE, {(k, 'dtype'): dtype for k, dtype in enumerate(several, 1)})
     yield draft(REDUCE, {(1, 'dtype'): 0, 5: 1})
@@ -795,8 +847,9 @@ def place_tables():
     for op, word in ((WHERE, 1), (WHERE, 2), (ADD, 1)):
         base = draft(op, DRAFTS[op][0])
         yield from (draft(op, DRAFTS[op][0], {word: v}) for v in (len(base) // 17 - 1, -1))
-    yield from (smallest(op, {1: 1}) for op in model.BINARY if op != ADD)
+    yield from (smallest(op, {1: 1}) for op in (*model.BINARY, FILL, STACK) if op != ADD)
     yield from (draft(RESHAPE, {9: elements}) for elements in (5, 7))
+    yield from (draft(REDUCE, DRAFTS[REDUCE][0], {5: number}) for number in (-1, 2))
     for op in (PAD, SHRINK):
         yield from (draft(op, DRAFTS[op][0], {13: offset}) for offset in (LARGE, LARGE + 1))
     yield large((1,)) * 2
@@ -809,7 +862,7 @@ def place_tables():
 def unused_tables():
     """Word 6 of every operation that does not use it, and each other word of one that does not."""
     for word in range(1, 17):
-        ops = [op for op in range(21) if word not in model.USED_WORDS[op]]
+        ops = [op for op in range(OPERATIONS) if word not in model.USED_WORDS[op]]
         yield from (smallest(op, {word: 1}) for op in (ops if word == 6 else [ops[5 * word % len(ops)]]))
 
 
@@ -845,7 +898,7 @@ def hand_checks():
         for table in tables:
             yield Case('check', (table, 8 * (len(table) // 17)), 'check by hand')
     over = large(*[(LARGE,)] * 4) + const(0, 1)
-    for table in ([0], node(21), const(0, 2), over):
+    for table in ([0], node(UNKNOWN), const(0, 2), over):
         yield Case('check', (table, 0), 'refused before 14')
         yield Case('run', (table, [1], [], 0, 0), 'refused before 13 and 14')
 
@@ -864,9 +917,9 @@ def elementwise_runs():
     table += sum((apply(op, 0, divisor) for op in (IDIV, MOD) for divisor in (1, 2)), [])
     yield hand_run(table, [-7, -6, -1, 0, 1, 6, 7, 2, 3, -2, -3])
     yield hand_run(table, [-7, None, -1, 0, 1, 6, 7, None, 3, -2, None])
-    table = param(0, 2, -4, 9, (4,)) + param(1, 2, -4, 9, (3, 1))
+    table = param(0, 2, -4, 9, (5,)) + param(1, 2, -4, 9, (3, 1))
     table += sum((apply(op, 0, 1) for op in (ADD, MUL, MAX, CMPLT, CMPNE)), [])
-    yield hand_run(table, [-2, 3, None, 2, 3, None, -2])
+    yield hand_run(table, [-2, 3, None, 2, 0, 3, None, -2])
     table = param(0, 0, 0, 1, (3,)) + param(1, 0, 0, 1, (3, 1))
     yield hand_run(table + sum((apply(op, 0, 1) for op in (AND, OR, CMPNE)), []),
                    [0, 1, None, 0, 1, None])
@@ -933,7 +986,7 @@ def movement_runs():
     """Each movement in several ways from one source."""
     turns = ((0, 2, 1), (1, 0, 2), (1, 2, 0), (2, 0, 1), (2, 1, 0))
     table = param(0, 2, -12, 12, (2, 3, 4)) + sum((move(PERMUTE, 0, t) for t in turns), [])
-    yield hand_run(table, list(range(-12, 12)))
+    yield hand_run(table + move(SHRINK, 0, (1, 2, 3), (1, 0, 1)), list(range(-12, 12)))
     offsets = ((1, 2), (0, 0), (2, 3), (2, 0))
     table = param(0, 2, 0, 9, (2, 2)) + sum((move(PAD, 0, (4, 5), o) for o in offsets), [])
     yield hand_run(table, [1, None, 3, 4])
@@ -1016,10 +1069,153 @@ def no_reading_cases():
 
 def hand_cases(count, seed):
     rng = Random(f'by hand {seed}')
-    table = sum((small_node(op) for op in range(21)), [])
+    table = sum((small_node(op) for op in range(OPERATIONS)), [])
     several = [Case('unpack', (pack(table), len(table)), 'every operation'), *elementwise_runs(),
                *movement_runs(), *hand_checks(), *rank_runs(), *single_runs(), *axis_runs(), *hand_lookups(),
                *no_reading_cases()]
+    yield from chosen(rng, several, count, lambda case: case.call)
+
+
+# ---------------------------------------------------------- second edition
+# (02) "Model people want three operations."
+
+def three_types():
+    """Types that meet, bools too; a third that is another."""
+    for first, second in ((0, 0), (3, 0), (0, 3), (2, 3)):
+        several = const(first, 1) + const(second, 1)
+        yield from (several + apply(FILL, 0, 1), several + stack(0, 1), several + stack(0, 0, 1))
+    yield from (const(dtype, 1) + apply(KNOWN, 0) for dtype in model.TYPE_LIMITS)
+
+
+def three_devices():
+    """The one device from every place, and two that differ."""
+    table = const(2, 5) + param(0, 2, 0, 1, (), 7)
+    pairs = ((0, 1), (1, 0), (0, 0), (1, 1))
+    table += sum((make(*pair) for make in (lambda *pair: apply(FILL, *pair), stack) for pair in pairs), [])
+    table += sum((stack(*three) for three in ((0, 0, 1), (0, 1, 0), (1, 0, 0), (0, 0, 0))), [])
+    yield table + apply(KNOWN, 0) + apply(KNOWN, 1)
+    two = param(0, 2, 0, 1, (), 1) + param(1, 2, 0, 1, (), 2) + const(2, 1)
+    yield from (two + apply(FILL, *pair) for pair in ((0, 1), (1, 0)))
+    yield from (two + stack(*places) for places in ((0, 1), (2, 0, 1), (0, 2, 1), (1, 0, 2)))
+
+
+def three_bounds():
+    """Bounds of every pair of some intervals and of some three, of KNOWN, and at the ends of each type."""
+    signs = ((-3, -1), (-2, 5), (1, 4), (0, 0), (-6, -4))
+    table, pairs = interval_params(2, signs), [(i, k) for i in range(5) for k in range(5)]
+    yield table + sum((apply(FILL, *pair) for pair in pairs), [])
+    yield table + sum((stack(*pair) for pair in pairs), [])
+    yield table + sum((stack(i, k, (i + k) % 5) for i, k in pairs), []) + sum((apply(KNOWN, k) for k in range(5)), [])
+    ends = [const(dtype, end) for dtype, limits in model.TYPE_LIMITS.items() for end in limits]
+    meet = [make(k, k + 1) for k in (0, 2, 4, 6) for make in (lambda *pair: apply(FILL, *pair), stack)]
+    yield sum((*ends, *meet, *(apply(KNOWN, k) for k in range(8))), [])
+
+
+def three_shapes():
+    """Sources of each rank, shapes that would broadcast, and counts about 1048576."""
+    for rank in range(5):
+        shape = (2, 1, 3, 2)[:rank]
+        yield from (large(shape) + stack(*[0] * number) + apply(KNOWN, 0) for number in (2, 3))
+    others = ((2,), (1,)), ((1,), (2,)), ((), (1,)), ((2, 3), (3,)), ((2, 3), (3, 2)), ((1, 1, 1), (1, 1, 1, 1))
+    for turn, shapes in enumerate(others):
+        three = ((0, 0, 1), (0, 1, 0), (0, 1, 1))[turn % 3]
+        yield from (large(*shapes) + stack(*places) for places in ((0, 1), three))
+    about = ((512, 1024), 2), ((LARGE // 2 + 1,), 2), ((LARGE // 3,), 3), ((LARGE // 3 + 1,), 3), ((LARGE,), 2)
+    yield from (large(shape) + stack(*[0] * number) for shape, number in about)
+    yield from (large((17, 1), (61681,)) + apply(FILL, *pair) for pair in ((0, 1), (1, 0)))
+    yield large((1024, 1), (1024,)) + apply(FILL, 0, 1) + apply(KNOWN, 2)
+
+
+# A PARAM of another type, shape and device than the next two, with wider bounds.
+OTHER_FIRST = param(0, 3, -99, 99, (4,), 9) + param(1, 2, -9, 1, (2,)) + param(2, 2, -1, 9, (2,))
+
+
+def stack_words():
+    """Numbers that are 7, words 3 that are read or not, against 4, 6, 8 and 9; each word at the ends of 64 bits."""
+    def stacked(*words):
+        return OTHER_FIRST + node(STACK, dict(zip((1, 2, 3, 5), words)))
+
+    yield from (stacked(1, 2, word, 2) for word in (0, 1, 2, 3, -1, -BIG, BIG - 1, 2 ** 32))
+    yield from (stacked(1, 2, word, 3) for word in (0, 1, 2, 3, -1, -BIG, BIG - 1, 2 ** 32 + 1))
+    yield from (stacked(1, 2, word, number) for number in (0, 1, 4, -1) for word in (0, 9))
+    yield from (stacked(1, 2, 0, number) for number in (5, 2 ** 32 + 2, 2 ** 32 + 3, -2, -3, -BIG, BIG - 1))
+    yield from (stacked(*pair, 9, 9) for pair in ((3, 1), (-1, 1), (1, 3), (1, -BIG), (BIG - 1, 1), (0, 1), (1, 0)))
+    yield from (stacked(0, 1, word, 2) for word in (0, 1, 9))
+    yield from (OTHER_FIRST + param(3, 2, 0, 1, shape, device) + node(STACK, {1: 1, 2: 3, 3: word, 5: number})
+                for shape, device in (((3,), 1), ((2,), 5), ((3,), 5)) for word, number in ((0, 2), (9, 2), (0, 4)))
+    yield OTHER_FIRST + node(STACK, {1: 1, 2: 9, 4: 1, 5: 9})
+
+
+def three_checks():
+    for tables in (three_types(), three_devices(), three_bounds(), three_shapes(), stack_words()):
+        for table in tables:
+            yield Case('check', (table, 8 * (len(table) // 17)), 'check of the three')
+
+
+def parity_cells(count):
+    """Numbers where they have an odd count of bits, gaps elsewhere: no axis can be left out."""
+    return [k if k.bit_count() % 2 else None for k in range(count)]
+
+
+def three_runs():
+    """T known, 0 and a gap, each with each of C; KNOWN and STACK of each rank; each rank under each higher one."""
+    table = param(0, 2, -9, 9, (4,)) + param(1, 2, -9, 9, (4, 1))
+    yield hand_run(table + apply(FILL, 0, 1) + apply(FILL, 1, 0), [-2, 3, None, 0, 3, None, -2, 0])
+    table = param(0, 0, 0, 1, (3,)) + param(1, 0, 0, 1, (3, 1)) + apply(FILL, 0, 1) + apply(KNOWN, 2) + stack(0, 0)
+    yield hand_run(table, [0, 1, None, 0, 1, None])
+    table = sum((param(k, 2, 0, 2000, (2, *[1] * k)) for k in range(4)), [])
+    for turn in (1, -1):
+        pairs = [apply(FILL, *pair[::turn]) for pair in combinations(range(4), 2)]
+        yield hand_run(table + sum(pairs, []), [n for k in range(4) for n in (10 ** k, None)])
+    table = param(0, 2, 0, 15, FOUR_TWOS) + param(1, 2, 100, 115, FOUR_TWOS) + apply(FILL, 0, 1) + apply(KNOWN, 0)
+    yield hand_run(table, [*parity_cells(16), *range(100, 116)])
+    for rank in range(4):
+        shape = (2, 1, 3)[:rank]
+        cells, count = [5, None, 0, -7], prod(shape)
+        table = param(0, 2, -9, 9, shape) + param(1, 2, -9, 9, shape) + stack(1, 0) + stack(0, 1, 1) + stack(1, 0, 1)
+        table += sum((apply(KNOWN, k) for k in (0, 1, 2, 4)), []) + apply(FILL, 0, 1) + stack(0, 0, 0)
+        for turn in (0, 1):
+            yield hand_run(table, [cells[(k + turn) % 4] for k in range(2 * count)])
+    table = param(0, 2, -9, 9, (2, 3)) + apply(KNOWN, 0) + node(CAST, {1: 1, 4: 2}) + reduce_node(2, 0, (0, 1))
+    table += const(2, -9) + apply(WHERE, 1, 0, 4) + apply(FILL, 0, 4) + move(PAD, 0, (3, 3), (0, 0)) + apply(KNOWN, 7)
+    yield hand_run(table, [1, None, 0, None, None, -9])
+
+
+def three_lookups():
+    """A lookup stops at each of the three, and at each of them under movements."""
+    source = param(0, 2, 0, 9, (2, 3)) + move(FLIP, 0, (1, 0))
+    for new in (apply(FILL, 1, 0), apply(FILL, 0, 1), apply(KNOWN, 1), stack(1, 0), stack(1, 1, 0)):
+        table = source + new
+        flags = (1, 1, 1) if new[0] == STACK else (1, 1)
+        table += move(FLIP, 2, flags) + load(3, 4)
+        yield from (Case('lookup', (table, *place), 'lookup of the three')
+                    for place in ((2, 0), (2, 5), (4, 1), (3, 4)))
+    table = source + stack(0, 1) + move(PAD, 2, (3, 2, 3), (1, 0, 0))
+    yield from (Case('lookup', (table, *place), 'lookup of the three')
+                for place in ((2, 11), (2, 12), (3, 5), (3, 6)))
+
+
+def edition_cases():
+    """Bytes of both editions by unpack, some by unpack and check in one call and as a listing; packed tables."""
+    for turn, (data, room) in enumerate(EDITION_BYTES):
+        yield Case('unpack', (data, room), 'edition')
+        if turn % 3 == 1:
+            yield Case('unpack_check', (data,), 'edition')
+        if turn % 9 == 1:
+            yield Case('listing', (data,), 'edition')
+    tables = [five + new + tail for five in ([], const(2, 5))
+              for new in (node(FILL), node(KNOWN), smallest(STACK, {})[17:])
+              for tail in ([], const(2, 5))]
+    yield from (to_pack(table, -(turn % 4), f'edition, room {-(turn % 4)}') for turn, table in enumerate(tables))
+    yield from (to_pack(tables[-1], more, f'edition, room {more}') for more in (0, 1, 2))
+    yield from (to_pack(node(LOAD), more, 'the last operation of the first edition') for more in (0, 2, -1))
+    full = const(2, 5) * 255 + apply(KNOWN, 254)
+    yield from (Case('unpack_check', (pack(full),), 'edition'), to_pack(full, -1, 'edition, 256 nodes'))
+
+
+def second_edition(count, seed):
+    rng = Random(f'second edition {seed}')
+    several = [*three_checks(), *three_runs(), *three_lookups(), *edition_cases()]
     yield from chosen(rng, several, count, lambda case: case.call)
 
 
@@ -1049,15 +1245,14 @@ def to_pack(table, more, note):
 
 
 def packed_words():
-    """Every used word at each end; each operation alone with each room."""
+    """Every used word at each end; each operation alone with exact room and another."""
     for op, used in enumerate(model.USED_WORDS):
         table = []
         for turn in range(len(PACKED_ENDS)):
             table += node(op, {w: PACKED_ENDS[(turn + k) % len(PACKED_ENDS)] for k, w in enumerate(used)})
         yield to_pack(table, op % 3, f'ends, op {op}')
-        yield from (to_pack(small_node(op), more, f'room {more}, op {op}') for more in (0, -1, 4))
-        yield Case('pack', (small_node(op), 0), f'pack: no room, op {op}')
-    every = sum((small_node(op) for op in range(21)), [])
+        yield from (to_pack(small_node(op), more, f'room {more}, op {op}') for more in (0, (-1, 4, -99)[op % 3]))
+    every = sum((small_node(op) for op in range(OPERATIONS)), [])
     yield from (to_pack(every, more, f'room {more}, every operation') for more in (0, -1, 1))
 
 
@@ -1072,7 +1267,7 @@ def refused_words():
             before = small_node(turn) * (turn % 3)
             node_of = set_node(op, used[turn % len(used)], BEYOND[(turn + turn // 4) % 4])
             yield to_pack(before + node_of, 40, f'out of range, op {op}')
-    for turn, op in enumerate((-1, 21, BIG - 1, -BIG, 2 ** 32)):
+    for turn, op in enumerate((-1, UNKNOWN, BIG - 1, -BIG, 2 ** 32)):
         for nodes in (0, 1 + turn % 2):
             yield to_pack(const(1, 9) * nodes + node(op), 40, f'operation {op}')
 
@@ -1083,12 +1278,12 @@ def packed_lengths():
         yield to_pack((const(2, -9) * 257)[:length], 1, f'{length} words')
     yield Case('pack', ([], 0), 'pack: no words, no room')
     yield to_pack(const(2, -9) * 256, -1, '256 nodes, one byte short')
-    yield to_pack(const(2, -9) * 255 + node(21), 0, 'the last of 256 nodes')
+    yield to_pack(const(2, -9) * 255 + node(UNKNOWN), 0, 'the last of 256 nodes')
     yield to_pack(const(2, -9) * 128, 0, '128 nodes')
 
 
 # Nodes by the refusal that each is due, some due two of them.
-PACK_BREAKS = {2: [node(21), node(-1, {4: 1, 5: BIG - 1}), node(21, dict.fromkeys(range(1, 17), -BIG))],
+PACK_BREAKS = {2: [node(UNKNOWN), node(-1, {4: 1, 5: BIG - 1}), node(UNKNOWN, dict.fromkeys(range(1, 17), -BIG))],
                3: [set_node(CONST, 1, 1), set_node(ADD, 3, BIG - 1), node(CONST, {4: BIG - 1, 16: 1}),
                    node(LOAD, {2: -1, 6: -BIG}), node(WHERE, {1: 2 ** 34, 2: 2 ** 34, 3: 2 ** 34, 4: 2 ** 34})],
                25: [set_node(CONST, 4, BEYOND[0]), set_node(PAD, 16, BEYOND[1]), set_node(PARAM, 12, -BIG),
@@ -1127,22 +1322,22 @@ def packs(count, seed):
     rng = Random(f'packs {seed}')
     several = [*packed_words(), *refused_words(), *packed_lengths(), *packed_orders(), *packed_refused(rng)]
     for turn in range(40):
-        table = sum((random_words(rng, rng.randrange(21)) for _ in range(rng.randint(1, 6))), [])
+        table = sum((random_words(rng, rng.randrange(OPERATIONS)) for _ in range(rng.randint(1, 6))), [])
         if turn % 4 == 3:
-            table[rng.randrange(len(table))] = rng.choice((*BEYOND, 1, -1, 21))
+            table[rng.randrange(len(table))] = rng.choice((*BEYOND, 1, -1, UNKNOWN))
         several.append(to_pack(table, rng.choice((0, 0, -1, 3)), 'random'))
     rng.shuffle(several)
     yield from chosen(rng, several, count, lambda case: case.note)
 
 
 GROUPS = {
-    'valid plans': (valid_plans, 210), 'near misses': (near_misses, 150),
+    'valid plans': (valid_plans, 240), 'near misses': (near_misses, 150),
     'rule pairs': (rule_pairs, 150), 'edge words': (edge_words, 95),
-    'intervals': (interval_cases, 96), 'limits': (limit_cases, 110),
+    'intervals': (interval_cases, 108), 'limits': (limit_cases, 110),
     'buffers': (buffer_cases, 65), 'run inputs': (run_inputs, 100),
     'packed bytes': (packed_bytes, 190), 'packed plans': (packed_plans, 20),
-    'lookups': (lookups, 108), 'listings': (listings, 30), 'by hand': (hand_cases, 320),
-    'packs': (packs, 700),
+    'lookups': (lookups, 108), 'listings': (listings, 30), 'by hand': (hand_cases, 340),
+    'packs': (packs, 800), 'second edition': (second_edition, 340),
 }
 
 
@@ -1151,5 +1346,11 @@ def group(name, count, seed):
 
 
 def all_cases(seed, scale=1):
+    """The cases of all groups, each once."""
+    met = set()
     for make, count in GROUPS.values():
-        yield from make(int(count * scale), seed)
+        for case in make(int(count * scale), seed):
+            asked = case.call, repr(case.args)
+            if asked not in met:
+                yield case
+            met.add(asked)

@@ -15,8 +15,10 @@ Found = namedtuple('Found', 'number place found node element')
 Record = namedtuple('Record', 'dtype device low high extents')
 
 (CONST, PARAM, PERMUTE, FLIP, RESHAPE, EXPAND, PAD, SHRINK, CAST, ADD, MUL,
- MAX, IDIV, MOD, CMPLT, CMPNE, AND, OR, WHERE, REDUCE, LOAD) = range(21)
+ MAX, IDIV, MOD, CMPLT, CMPNE, AND, OR, WHERE, REDUCE, LOAD, FILL, KNOWN, STACK) = range(24)
 BINARY = (ADD, MUL, MAX, IDIV, MOD, CMPLT, CMPNE, AND, OR)
+# (02) "Model people want three operations."
+NEW = (FILL, KNOWN, STACK)
 
 # "each of 17 signed 64-bit words"; "A plan is a table of 1 to 256 nodes"
 NODE_WORDS = 17
@@ -30,6 +32,10 @@ MOST_PLAN_ELEMENTS = 4194304
 MOST_LISTING_BYTES = 12288
 # (02) "whose used words lie in −17179869184..17179869183"
 LEAST_WORD, GREATEST_WORD = -17179869184, 17179869183
+# (02) "A second edition file starts with bytes 00 02"
+SECOND_EDITION = [0x00, 0x02]
+# (02) "source rank at most 3"
+MOST_STACKED_RANK = 3
 
 # "Types: 0 bool (0..1), 1 u8 (0..255), .. 3 i32 (−2147483648..2147483647)."
 # (02) "The range of i16 becomes −32767..32767, wherever a type's range is asked for."
@@ -38,12 +44,22 @@ TYPE_LIMITS = {0: (0, 1), 1: (0, 255), 2: (-32767, 32767),
                3: (-2147483648, 2147483647)}
 
 # "Which words an operation uses is a constant table indexed by its number."
+# (02) "FILL (21, sources T and C ..", "KNOWN (22, one source)", "STACK (23, words 1,2,3,5)"
 ROW_A, ROW_B = (9, 10, 11, 12), (13, 14, 15, 16)
 USED_WORDS = (
     (4, 5), (4, 5, 6, 7, 8, *ROW_A),                    # CONST PARAM
     *[(1, *ROW_A)] * 4, *[(1, *ROW_A, *ROW_B)] * 2,     # PERMUTE to EXPAND, PAD SHRINK
     (1, 4), *[(1, 2)] * 9,                              # CAST, ADD to OR
-    (1, 2, 3), (1, 5, *ROW_A), (1, 6))                  # WHERE REDUCE LOAD
+    (1, 2, 3), (1, 5, *ROW_A), (1, 6),                  # WHERE REDUCE LOAD
+    (1, 2), (1,), (1, 2, 3, 5))                         # FILL KNOWN STACK
+
+
+# "1 to 3 sources"; (02) "number 2 or 3 of sources"; "rules 4 and 6 read word 3 only with
+#  number 3"
+def source_words(words):
+    """Those of words 1 to 3 that name a source."""
+    named = [w for w in (1, 2, 3) if w in USED_WORDS[words[0]]]
+    return [1, 2] if words[0] == STACK and words[5] != 3 else named
 
 
 class Node:
@@ -65,7 +81,7 @@ class Node:
     @property
     def sources(self):
         """Records of the sources; only after rule 4 has passed."""
-        return [self.earlier[self.words[w]] for w in (1, 2, 3) if self.uses(w)]
+        return [self.earlier[self.words[w]] for w in source_words(self.words)]
 
 
 # ---------------------------------------------------------------- shapes
@@ -100,23 +116,34 @@ def offsets_fit(inner, outer, offsets):
     return all(o + i <= e for o, i, e in zip(offsets, inner, outer))
 
 
+# (02) "number 2 or 3 of sources joined on a new leading axis, all shapes .. equal,
+#  source rank at most 3"
+def stacked(shapes):
+    if len(set(shapes)) > 1 or len(shapes[0]) > MOST_STACKED_RANK:
+        return None
+    return len(shapes), *shapes[0]
+
+
 # "PERMUTE: result axis k is source axis A_k. FLIP: flag 1 reverses. RESHAPE:
 #  equal element counts. EXPAND: same rank, s_k is 1 or s'_k."
-# "REDUCE: flagged axes become 1; rank stays."
+# "REDUCE: flagged axes become 1; rank stays." (02) "FILL (21, .. broadcast)"
 def result_extents(node):
     """The extents of the result, or None where the shapes disagree."""
     if node.op == CONST:
         return ()
     if node.op == PARAM:
         return extents_of_row(node.row_a)
-    if node.op in BINARY or node.op == WHERE:
-        return broadcast([source.extents for source in node.sources])
-    source = node.sources[0].extents
+    shapes = [source.extents for source in node.sources]
+    if node.op in BINARY or node.op in (WHERE, FILL):
+        return broadcast(shapes)
+    if node.op == STACK:
+        return stacked(shapes)
+    source = shapes[0]
     if node.op == PERMUTE:
         return tuple(source[axis] for axis in node.row_a[:len(source)])
     if node.op == REDUCE:
         return tuple(1 if flag else s for s, flag in zip(source, node.row_a))
-    if node.op in (FLIP, CAST, LOAD):
+    if node.op in (FLIP, CAST, LOAD, KNOWN):
         return source
     wanted = extents_of_row(node.row_a)
     if node.op == RESHAPE:
@@ -153,17 +180,19 @@ def all_coordinates(extents):
 
 # ------------------------------------------- type, device and bounds
 
-# The column "dtype of result" of the table of operations.
+# The column "dtype of result" of the table of operations. (02) "KNOWN (22, one
+#  source): bool"
 def result_dtype(node):
     if node.uses(4):
         return node.words[4]
-    if node.op in (CMPLT, CMPNE, AND, OR):
+    if node.op in (CMPLT, CMPNE, AND, OR, KNOWN):
         return BOOL
     return node.sources[1 if node.op == WHERE else 0].dtype
 
 
 # "CONST has device 0. PARAM and LOAD name theirs, 1..255. Others take the one
 #  non-zero device of their sources, or 0; two different ones are refused."
+# (02) "All three carry devices as binary operations do"
 def result_devices(node):
     """The set of devices that meet in the node, without NULL."""
     if node.uses(6):
@@ -201,6 +230,8 @@ def binary_interval(op, first, second):
 # "CONST [v,v]; PARAM [low,high]; movement (2–7) and LOAD, the source's"
 # "WHERE [min(b,c),max(B,C)]; CAST the source's." "REDUCE sum over n elements
 #  [n·a,n·A]; max, the source's. n is the product of flagged extents, 1 if none."
+# (02) FILL "bounds least low and greatest high"; KNOWN "bounds [0,1]"; STACK "bounds
+#  least and greatest"
 def result_interval(node):
     if node.op == CONST:
         return node.words[5], node.words[5]
@@ -211,6 +242,10 @@ def result_interval(node):
     if node.op == WHERE:
         _, second, third = node.sources
         return min(second.low, third.low), max(second.high, third.high)
+    if node.op in (FILL, STACK):
+        return min(s.low for s in node.sources), max(s.high for s in node.sources)
+    if node.op == KNOWN:
+        return 0, 1
     source = node.sources[0]
     if node.op == REDUCE and node.words[5] == 0:
         n = prod(s for s, flag in zip(source.extents, node.row_a) if flag)
@@ -220,9 +255,9 @@ def result_interval(node):
 
 # ------------------------------------- rules 2 to 11: True where broken
 
-# 2 "operation not 0..20"
+# 2 "operation not 0..20"; (02) "in 01's rule 2 .. the limit is 23"
 def operation_unknown(node):
-    return not 0 <= node.op <= 20
+    return not 0 <= node.op <= STACK
 
 
 # 3 "unused word not zero"
@@ -233,7 +268,7 @@ def unused_word_set(node):
 # 4 "source negative or not earlier"
 def source_not_earlier(node):
     return any(not 0 <= node.words[w] < len(node.earlier)
-               for w in (1, 2, 3) if node.uses(w))
+               for w in source_words(node.words))
 
 
 # 5 "word 4 used and not 0..3"
@@ -242,14 +277,15 @@ def dtype_unknown(node):
 
 
 # 6 "type rule broken (operands differ, bool misplaced, WHERE condition not bool)"
+# (02) FILL "same type"; STACK "all shapes and types equal"
 def dtypes_wrong(node):
     dtypes = [source.dtype for source in node.sources]
     if node.op == WHERE:
         return dtypes[0] != BOOL or dtypes[1] != dtypes[2]
     if node.op in (AND, OR):
         return dtypes != [BOOL, BOOL]
-    if node.op == CMPNE:
-        return dtypes[0] != dtypes[1]
+    if node.op in (CMPNE, FILL, STACK):
+        return len(set(dtypes)) > 1
     if node.op in BINARY:
         return dtypes[0] != dtypes[1] or BOOL in dtypes
     return node.op == REDUCE and dtypes[0] == BOOL
@@ -257,6 +293,7 @@ def dtypes_wrong(node):
 
 # 7 "the k-th PARAM from zero has slot (word 5) k ≤ 15 and low ≤ high; a device
 #  used is 1..255; REDUCE's number is 0 or 1" "shape rows as above"
+# (02) "STACK's number, or a word 3 not zero with number 2, is 7"
 def row_or_number_wrong(node):
     slot = number = node.words[5]
     if node.op == PARAM:
@@ -267,6 +304,8 @@ def row_or_number_wrong(node):
     if node.uses(6) and not 1 <= node.words[6] <= 255:
         return True
     if node.op == REDUCE and number not in (0, 1):
+        return True
+    if node.op == STACK and (number not in (2, 3) or (number == 2 and node.words[3] != 0)):
         return True
     if node.op in (PARAM, RESHAPE, EXPAND, PAD, SHRINK):
         if extents_of_row(node.row_a) is None:
@@ -290,7 +329,7 @@ def row_by_source_wrong(node):
     return any(not 0 <= word <= greatest for word in head)
 
 
-# 8 "shapes disagree, or over 1048576 elements"
+# 8 "shapes disagree, or over 1048576 elements"; (02) STACK's "shapes and rank 8"
 def shapes_disagree(node):
     extents = result_extents(node)
     return extents is None or prod(extents) > MOST_NODE_ELEMENTS
@@ -433,6 +472,22 @@ def where_value(condition, second, third):
     return second if condition == 1 else third
 
 
+# (02) "T where known, else C"
+def fill_value(t, c):
+    return c if t is None else t
+
+
+# (02) "1 where the source is known, else 0, never a gap"
+def known_value(value):
+    return int(value is not None)
+
+
+# (02) "sources joined on a new leading axis"
+def stack_value(coordinates, sources):
+    _, field = sources[coordinates[0]]
+    return field[coordinates[1:]]
+
+
 # "REDUCE if any element it gathers is." "(number 0 sum, 1 max)"
 def reduce_value(words, coordinates, field):
     flags = words[9:13]
@@ -450,10 +505,16 @@ def element_value(words, coordinates, extents, sources):
     op = words[0]
     if op == CONST:
         return words[5]
-    if op in BINARY or op == WHERE:
+    if op in BINARY or op in (WHERE, FILL):
         operands = [operand_at(field, coordinates, own) for own, field in sources]
+        if op == FILL:
+            return fill_value(*operands)
         return where_value(*operands) if op == WHERE else binary_value(op, *operands)
+    if op == STACK:
+        return stack_value(coordinates, sources)
     own, field = sources[0]
+    if op == KNOWN:
+        return known_value(field[coordinates])
     if op == REDUCE:
         return reduce_value(words, coordinates, field)
     if op == CAST:
@@ -483,7 +544,7 @@ def all_fields(table, records, values, flags):
     fields = []
     for position, record in enumerate(records):
         words = node_words(table, position)
-        numbers = [words[w] for w in (1, 2, 3) if w in USED_WORDS[words[0]]]
+        numbers = [words[w] for w in source_words(words)]
         sources = [(records[n].extents, fields[n]) for n in numbers]
         fields.append({
             place: next(inputs) if words[0] == PARAM
@@ -522,7 +583,7 @@ def run(table, values, flags, out_values, out_flags):
 # "A lookup takes a plan, a node and an element, and follows nodes 2–7 and 20
 #  back, the source always being an earlier node, to the first other node: its
 #  answer is either a place (node with element) or a gap." "A lookup gives 17
-#  after 12."
+#  after 12." (02) "lookups stop at them"
 def lookup(table, node, element):
     number, rest = verdict(table)
     if number:
@@ -570,11 +631,24 @@ def word_of(written):
     return written // 2 if written % 2 == 0 else -(written + 1) // 2
 
 
+# (02) "A second edition file starts with bytes 00 02, then count and nodes as
+#  before"; "a leading 00 not followed by 02 is 23"; "First edition readers keep
+#  refusing 23 and 24"; "for second edition files, rule 24 the limit is 23"
+def read_edition(data):
+    """The file's highest operation, and the first byte of its count."""
+    start = list(data[:2])
+    if start[:1] != SECOND_EDITION[:1]:
+        return LOAD, 0
+    if start != SECOND_EDITION:
+        raise Refused(23, 0)
+    return STACK, len(SECOND_EDITION)
+
+
 # "A packed plan is the node count, then for each node its operation and its used
 #  words in rising order." "Unpacking makes the 17-word table with zeros elsewhere."
-def read_node(data, first):
+def read_node(data, first, highest):
     op, position = read_number(data, first)
-    if op > 20:
+    if op > highest:
         raise Refused(24, first)
     words = [op] + [0] * (NODE_WORDS - 1)
     for word in USED_WORDS[op]:
@@ -583,21 +657,29 @@ def read_node(data, first):
     return words, position
 
 
+def holds_new(table):
+    return any(op in NEW for op in table[::NODE_WORDS])
+
+
 # "Unpacking: count (20, 21, 23), 14 for the table's room, numbers in byte order,
-#  22 last." "unpacking also answers the node count"
+#  22 last." "unpacking also answers the node count" (02) "26 for a second edition
+#  file with no new operation, after 22"
 def unpack(data, table):
     try:
-        count, position = read_number(data, 0)
+        highest, start = read_edition(data)
+        count, position = read_number(data, start)
         if not 1 <= count <= MOST_NODES:
             raise Refused(23, 0)
         if len(table) < NODE_WORDS * count:
             raise Refused(14, 0)
         words = []
         for _ in range(count):
-            node, position = read_node(data, position)
+            node, position = read_node(data, position, highest)
             words += node
         if position < len(data):
             raise Refused(22, position)
+        if highest == STACK and not holds_new(words):
+            raise Refused(26, 0)
     except Refused as refused:
         return Answer(*refused.args, 0)
     table[:len(words)] = words
@@ -652,13 +734,14 @@ def written_node(words):
 
 
 # "A packed plan is the node count, then for each node .." (02) "a table in, packed
-#  bytes out." "The answer carries the length written." "then 14 for room"
+#  bytes out." "The answer carries the length written." "then 14 for room"; "The
+#  writer picks the edition."
 def pack(table, buffer):
     number, place = pack_refusal(table)
     if number:
         return Answer(number, place, 0)
     count = len(table) // NODE_WORDS
-    data = written_number(count)
+    data = (SECOND_EDITION if holds_new(table) else []) + written_number(count)
     for position in range(count):
         data += written_node(node_words(table, position))
     if len(buffer) < len(data):

@@ -8,9 +8,9 @@ sys.dont_write_bytecode = True
 
 import cases
 import model
-from cases import apply, const, move, node, pack, param, reduce_node
-from model import (ADD, AND, CAST, CMPLT, CMPNE, EXPAND, FLIP, IDIV, LOAD, MAX, MOD, MUL, OR,
-                   PAD, PERMUTE, RESHAPE, SHRINK, WHERE, Answer, Found)
+from cases import OPERATIONS, UNKNOWN, apply, const, move, node, pack, param, reduce_node, stack
+from model import (ADD, AND, CAST, CMPLT, CMPNE, EXPAND, FILL, FLIP, IDIV, KNOWN, LOAD, MAX, MOD, MUL, OR,
+                   PAD, PERMUTE, RESHAPE, SHRINK, STACK, WHERE, Answer, Found)
 
 GAP = None
 I32_LOW = -2147483648
@@ -309,8 +309,8 @@ def shown(text):
     return list(bytes.fromhex(text))
 
 
-class Packing(Compared):
-    """02: "Write packed plans too.\""""
+class Files(Compared):
+    """Plans against their bytes, in hex."""
 
     def packs(self, table, text, note=''):
         """The table packs into the bytes: exact, longer and one short."""
@@ -329,6 +329,10 @@ class Packing(Compared):
             buffer = cases.fresh_flags(room)
             answer = model.pack(table, buffer)
             self.same((answer, buffer), (Answer(number, place, 0), cases.fresh_flags(room)), (note, room))
+
+
+class Packing(Files):
+    """02: "Write packed plans too.\""""
 
     def test_printed(self):
         self.packs(const(2, 5), '01 00 04 0A')
@@ -358,17 +362,17 @@ class Packing(Compared):
         self.packs(const(7, 5), '01 00 0E 0A', 'a type that is none')
 
     def test_order(self):
-        self.pack_refused(node(21, {w: 2 ** 40 for w in range(1, 17)}), 2, 0, '2 before 3 and 25')
+        self.pack_refused(node(UNKNOWN, {w: 2 ** 40 for w in range(1, 17)}), 2, 0, '2 before 3 and 25')
         self.pack_refused(node(0, {4: 2 ** 40, 9: 1}), 3, 0, '3 before 25, the used word first')
         self.pack_refused(node(9, {1: 1, 2: 2 ** 40, 3: 1}), 3, 0, '3 before 25, beside each other')
         self.pack_refused(node(20, {2: 1, 6: 2 ** 40}), 3, 0, '3 before 25, the unused word first')
         self.pack_refused(node(0, {1: 2 ** 40}), 3, 0, 'an unused word is 3 however large')
-        self.pack_refused(const(2, 2 ** 40) + node(21), 25, 0, '25 of node 0 before 2 of node 1')
+        self.pack_refused(const(2, 2 ** 40) + node(UNKNOWN), 25, 0, '25 of node 0 before 2 of node 1')
         self.pack_refused(const(2, 2 ** 40) + node(0, {1: 1}), 25, 0, '25 of node 0 before 3 of node 1')
-        self.pack_refused(node(0, {1: 1}) + node(21), 3, 0, '3 of node 0 before 2 of node 1')
+        self.pack_refused(node(0, {1: 1}) + node(UNKNOWN), 3, 0, '3 of node 0 before 2 of node 1')
         self.pack_refused(const(2, 5) * 255 + node(-1), 2, 255, 'the last of 256 nodes')
         for length in (0, 1, 16, 18, 17 * 256 + 1, 17 * 257):
-            self.pack_refused((node(21) + const(2, 2 ** 40) * 256)[:length], 1, 0, length)
+            self.pack_refused((node(UNKNOWN) + const(2, 2 ** 40) * 256)[:length], 1, 0, length)
 
     def test_longest(self):
         for extreme in (17179869183, -17179869184):
@@ -377,6 +381,112 @@ class Packing(Compared):
             self.same(model.pack(table, buffer), Answer(0, 0, 11778), '"256 nodes take at most 11778"')
             self.same(bytes(buffer), pack(table))
             self.same(model.pack(table, [0] * 11777), Answer(14, 0, 0))
+
+
+class ThreeOperations(Compared):
+    """02: "Model people want three operations.\""""
+
+    def test_fill(self):
+        fill = param(0, 2, -9, 9, (4,)) + param(1, 2, -9, 9, (4,)) + apply(FILL, 0, 1)
+        self.values(fill, [3, 0, GAP, GAP, 4, 4, 4, GAP], [3, 0, 4, GAP])
+        table = param(0, 2, 0, 9, (2, 2)) + param(1, 2, 10, 19, (2,)) + apply(FILL, 0, 1)
+        self.values(table, [1, GAP, GAP, 4, 10, GAP], [1, GAP, 10, 4])
+        self.values(table[:-17] + apply(FILL, 1, 0), [1, GAP, GAP, 4, 10, GAP], [10, GAP, 10, 4])
+        self.bounds(table, 0, 19)
+        self.bounds(const(2, -3) + const(2, 7) + apply(FILL, 1, 0), -3, 7)
+        self.refused(const(2, 1) + const(3, 1) + apply(FILL, 0, 1), 6, 2)
+        self.refused(param(0, 2, 0, 1, (2,)) + param(1, 2, 0, 1, (3,)) + apply(FILL, 0, 1), 8, 2)
+        self.refused(param(0, 2, 0, 1, ()) + param(1, 2, 0, 1, (), 2) + apply(FILL, 0, 1), 9, 2)
+
+    def test_known(self):
+        self.values(param(0, 2, -9, 9, (3,)) + apply(KNOWN, 0), [0, GAP, -9], [1, 0, 1])
+        self.values(param(0, 0, 0, 1, (2,)) + apply(KNOWN, 0), [0, GAP], [1, 0])
+        for source in (const(2, 5), const(0, 1), param(0, 3, 5, 9, (2,))):
+            self.bounds(source + apply(KNOWN, 0), 0, 1)
+        self.same(model.verdict(param(0, 3, 5, 9, (2, 3), 7) + apply(KNOWN, 0))[1][1],
+                  model.Record(model.BOOL, 7, 0, 1, (2, 3)))
+
+    def test_stack(self):
+        rows = param(0, 2, 0, 9, (2,)) + param(1, 2, 10, 19, (2,))
+        self.values(rows + stack(1, 0), [1, GAP, 11, 12], [11, 12, 1, GAP])
+        self.values(rows + stack(0, 1, 0), [1, GAP, 11, 12], [1, GAP, 11, 12, 1, GAP])
+        self.bounds(rows + stack(1, 0), 0, 19)
+        self.same(model.verdict(rows + stack(0, 1, 1))[1][2].extents, (3, 2))
+        for rank in range(4):
+            self.same(model.verdict(param(0, 2, 0, 9, (2,) * rank) + stack(0, 0))[1][1].extents,
+                      (2,) * (rank + 1))
+        self.refused(param(0, 2, 0, 9, (2,) * 4) + stack(0, 0), 8, 1)
+        self.refused(param(0, 2, 0, 9, (1,)) + param(1, 2, 0, 9, (2,)) + stack(0, 1), 8, 2, 'no broadcast')
+        self.bounds(param(0, 2, 0, 9, (512, 1024)) + stack(0, 0), 0, 9)
+        self.refused(param(0, 2, 0, 9, (512, 1024)) + stack(0, 0, 0), 8, 1)
+
+    def test_word_3(self):
+        """"rules 4 and 6 read word 3 only with number 3\""""
+        apart = param(0, 3, -99, 99, (4,), 9) + param(1, 2, -9, 1, (2,)) + param(2, 2, -1, 9, (2,))
+        self.same(model.verdict(apart + stack(1, 2))[1][3], model.Record(2, 1, -9, 9, (2, 2)), 'not node 0')
+        for number, word, due in ((2, 1, 7), (2, 99, 7), (2, -2 ** 63, 7), (3, 99, 4), (3, -1, 4), (3, 0, 6),
+                                  (3, 2, 0), (0, 99, 7), (1, 0, 7), (4, 0, 7), (4, 2 ** 63 - 1, 7),
+                                  (-2 ** 63, 0, 7)):
+            found = model.verdict(apart + node(STACK, {1: 1, 2: 2, 3: word, 5: number}))
+            self.same((found[0], found[1] if due else 0), (due, 3 if due else 0), (number, word))
+        for first, second, due in ((9, 1, 4), (1, -1, 4), (0, 1, 6)):
+            self.refused(apart + node(STACK, {1: first, 2: second, 3: 99, 5: 9}), due, 3, 'before 7')
+
+    def test_lookups(self):
+        pair = param(0, 2, 0, 9, (2,)) + move(FLIP, 0, (1,))
+        for new in (apply(FILL, 1, 0), apply(KNOWN, 1), stack(1, 0)):
+            turned = pair + new + node(LOAD, {1: 2, 6: 3})
+            self.same(model.lookup(turned, 3, 1), Found(0, 0, 1, 2, 1))
+
+
+class SecondEdition(Files):
+    """02: "Second edition of the plan file.\""""
+
+    def test_written(self):
+        self.packs(const(2, 5) + apply(KNOWN, 0), '00 02 02 00 04 0A 16 00')
+        self.packs(apply(FILL, 1, -2), '00 02 01 15 02 03')
+        self.packs(node(STACK, {1: 1, 2: 2, 3: 3, 5: -4}), '00 02 01 17 02 04 06 07')
+        self.packs(node(LOAD), '01 14 00 00', 'the last operation of the first edition')
+        for number in (UNKNOWN, -1):
+            self.pack_refused(apply(KNOWN, 0) + node(number), 2, 1, number)
+        self.pack_refused(node(STACK, {3: 2 ** 40, 5: 2}), 25, 0, 'word 3 is a used word')
+
+    def test_read(self):
+        for text, room, want in (
+                ('00', 0, (23, 0)), ('0000', 0, (23, 0)), ('0003011600', 40, (23, 0)),
+                ('008200', 0, (23, 0)), ('0002', 0, (20, 2)), ('000281', 0, (20, 2)),
+                ('00028100', 0, (21, 2)), ('000200', 0, (23, 0)), ('00028102', 0, (23, 0)),
+                ('000201', 16, (14, 0)), ('000201', 17, (20, 3)), ('00020118', 17, (24, 3)),
+                ('00020116', 17, (20, 4)), ('000201160000', 17, (22, 5)), ('00020100040A', 16, (14, 0)),
+                ('00020100040A', 17, (26, 0)), ('00020100040A16', 17, (22, 6)), ('0002010004', 17, (20, 5)),
+                ('0115', 17, (24, 1)), ('0116', 17, (24, 1)), ('0117', 17, (24, 1)),
+                ('0200040A1600', 34, (24, 4))):
+            table = cases.fresh_words(room)
+            self.same(model.unpack(bytes.fromhex(text), table), Answer(*want, 0), text)
+            self.same(table, cases.fresh_words(room), text)
+        table = cases.fresh_words(18)
+        self.same(model.unpack(bytes.fromhex('0002011602'), table), Answer(0, 0, 1))
+        self.same(table, apply(KNOWN, 1) + [1017])
+
+    def test_one_call(self):
+        data = bytes.fromhex('00020200040A1600')
+        self.same(model.unpack_check(data), 2)
+        text = b'node op dtype device low high shape\n0 0 2 0 5 5 -\n1 22 0 0 0 1 -\naccepted 2\n'
+        self.same(model.listing(data), text)
+        self.same(model.listing(bytes.fromhex('00020100040A')), b'refused 26 at 0\n')
+
+    def test_longest(self):
+        """11778 bytes stay the limit of what the writer writes."""
+        sizes = [1 + 5 * len(used) for used in model.USED_WORDS]
+        self.same(2 + 2 + 255 * max(sizes) + max(sizes[op] for op in model.NEW), 11755)
+        longest = [node(op, dict.fromkeys(model.USED_WORDS[op], -17179869184)) for op in (model.PARAM, STACK)]
+        table = longest[0] * 255 + longest[1]
+        self.same((len(pack(table)), model.pack(table, [0] * 11755).count), (11755, 11755))
+
+
+def other_edition(data):
+    """The same file with the other edition's start."""
+    return data[2:] if data[:2] == bytes([0, 2]) else bytes([0, 2]) + data
 
 
 def outcome(case):
@@ -399,19 +509,21 @@ class GeneratedCases(Compared):
     def test_counts(self):
         self.same(list(cases.all_cases(1)) == self.every, True, 'deterministic')
         self.same(list(cases.all_cases(2)) == self.every, False, 'seeded')
-        self.same(2000 <= len(self.every) <= 2400, True, len(self.every))
-        for call, least in (('check', 800), ('run', 250), ('unpack', 150), ('lookup', 120),
-                            ('unpack_check', 60), ('listing', 20), ('pack', 500)):
+        self.same(2400 <= len(self.every) <= 2610, True, len(self.every))
+        asked = {(case.call, repr(case.args)) for case in self.every}
+        self.same(len(asked), len(self.every), 'no case twice')
+        for call, least in (('check', 900), ('run', 250), ('unpack', 230), ('lookup', 150),
+                            ('unpack_check', 80), ('listing', 25), ('pack', 550)):
             self.same(sum(c.call == call for c in self.every) >= least, True, call)
-        for name in ('by hand', 'packs'):
+        for name in ('by hand', 'packs', 'second edition'):
             count = cases.GROUPS[name][1]
             several = [list(cases.group(name, most, 1)) for most in (count, 10 * count)]
             self.same(several[0] == several[1], True, f'no case is left out: {name}')
 
     def test_every_number_is_reached(self):
         for call, numbers in (('check', (*range(13), 14)), ('run', (0, 2, 12, 13, 14, 15, 16)),
-                              ('lookup', (0, 12, 17)), ('unpack', (0, 14, *range(20, 25))),
-                              ('unpack_check', (0, 12, *range(20, 25))), ('listing', (0, 20)),
+                              ('lookup', (0, 12, 17)), ('unpack', (0, 14, *range(20, 25), 26)),
+                              ('unpack_check', (0, 12, *range(20, 25), 26)), ('listing', (0, 20, 26)),
                               ('pack', (0, 1, 2, 3, 14, 25))):
             reached = {number for case, number, _, _ in self.outcomes if case.call == call}
             self.same(set(numbers) - reached, set(), call)
@@ -421,7 +533,7 @@ class GeneratedCases(Compared):
     def test_accepted_runs(self):
         accepted = [case for case, number, _, _ in self.outcomes
                     if case.call == 'run' and number == 0]
-        self.same({op for c in accepted for op in c.args[0][::17]}, set(range(21)))
+        self.same({op for c in accepted for op in c.args[0][::17]}, set(range(OPERATIONS)))
         totals = []
         for case in accepted:
             _, records = model.verdict(case.args[0])
@@ -465,7 +577,7 @@ class GeneratedCases(Compared):
                 self.same(model.verdict(table), (first, place), (op, first, second))
         pairs = {(r, s) for r in range(2, 12) for s in range(r + 1, 12)}
         reached = {(r, s) for op in cases.DRAFTS for r, s, _ in cases.broken_pairs(op)}
-        self.same(pairs - reached, {(5, 6), (5, 9), (5, 10), (7, 9), (7, 10)})
+        self.same(pairs - reached, {(5, 6), (5, 9), (5, 10), (7, 10)})
 
     def test_round_trips(self):
         """(02) "Reading what it wrote gives the table back; writing what was read gives the same
@@ -483,6 +595,14 @@ class GeneratedCases(Compared):
                 if answer.number == 0:
                     written = model.pack(table[:17 * answer.count], data)
                     self.same(bytes(data[:written.count]), bytes(case.args[0]), case.note)
+
+    def test_one_file(self):
+        """(02) "each plan still has one file": as one of the other edition it is refused."""
+        for case in self.every:
+            data = case.args[0] if case.call in ('unpack', 'unpack_check') else b''
+            if model.unpack(data, [0] * 4352).number == 0:
+                due = 24 if data[0] == 0 else 26
+                self.same(model.unpack(other_edition(data), [0] * 4352).number, due, case.note)
 
     def test_packed_forms(self):
         for case in self.every:

@@ -23,8 +23,8 @@ from wrong_models import CONTROLS, FAMILIES, NAMES, ONE_SET_ONLY, patched
 # The calls that an attribute of model can change, where these are not all.
 RUN, PACKED = ('run',), ('unpack', 'unpack_check', 'listing')
 CALLS = {**dict.fromkeys(('run', 'all_fields', 'input_refusal', 'operand_at', 'binary_value', 'where_value',
-                          'reduce_value', 'element_value'), RUN),
-         **dict.fromkeys(('unpack', 'read_number', 'read_node', 'word_of'), PACKED),
+                          'fill_value', 'known_value', 'reduce_value', 'element_value'), RUN),
+         **dict.fromkeys(('unpack', 'read_number', 'read_edition', 'read_node', 'word_of'), PACKED),
          **dict.fromkeys(('pack_refusal', 'PACK_RULES', 'LEAST_WORD', 'GREATEST_WORD', 'written_number', 'written_node',
                           'number_of'), ('pack',)),
          **{call: (call,) for call in ('check', 'lookup', 'unpack_check', 'listing', 'pack')}}

@@ -11,13 +11,14 @@ from math import prod
 from types import SimpleNamespace
 
 import model
-from model import (ADD, AND, BINARY, BOOL, CAST, CMPLT, CMPNE, CONST, EXPAND, FLIP, IDIV, LOAD, MAX, MOD, MUL, OR,
-                   PAD, PARAM, PERMUTE, REDUCE, RESHAPE, SHRINK, WHERE, Answer, Found)
+from model import (ADD, AND, BINARY, BOOL, CAST, CMPLT, CMPNE, CONST, EXPAND, FILL, FLIP, IDIV, KNOWN, LOAD, MAX, MOD,
+                   MUL, NEW, OR, PAD, PARAM, PERMUTE, REDUCE, RESHAPE, SECOND_EDITION, SHRINK, STACK, WHERE, Answer, Found)
 
 RIGHT = SimpleNamespace(**vars(model))
 RULES = dict(RIGHT.NODE_RULES)
 NAMES = ('CONST PARAM PERMUTE FLIP RESHAPE EXPAND PAD SHRINK CAST ADD MUL MAX IDIV MOD CMPLT CMPNE AND OR WHERE '
-         'REDUCE LOAD').split()
+         'REDUCE LOAD FILL KNOWN STACK').split()
+OPERATIONS = len(NAMES)
 AXES = range(4)
 I16, I32 = 2, 3
 LARGE = 1048576
@@ -66,9 +67,14 @@ def seen(function, op, change):
     return {function: wrong}
 
 
+def rules(wrong):
+    """Other tests of a node, by the numbers of their rules."""
+    return {'NODE_RULES': tuple((number, wrong.get(number, right)) for number, right in RIGHT.NODE_RULES)}
+
+
 def rule(number, wrong):
     """Another test of a node by the rule."""
-    return {'NODE_RULES': tuple((n, wrong if n == number else right) for n, right in RIGHT.NODE_RULES)}
+    return rules({number: wrong})
 
 
 def rule_seen(number, ops, change):
@@ -235,10 +241,10 @@ def shapes():
     for k in range(3):
         yield f'PERMUTE has the shape with axes {k} and {k + 1} exchanged', of_result(
             'result_extents', PERMUTE, lambda node, right, k=k: exchanged(right, k))
-    for op in (*FITS, RESHAPE, *BINARY, WHERE):
+    for op in (*FITS, RESHAPE, *BINARY, WHERE, FILL, STACK):
         yield f'shapes of {NAMES[op]} are not compared', excused(
             8, lambda node, o=op: node.op == o and RIGHT.result_extents(node) is None)
-    for op in (*BINARY, WHERE):
+    for op in (*BINARY, WHERE, FILL):
         yield f'{NAMES[op]} asks for the same shape', refused(8, lambda node, o=op: (
             node.op == o and len({source.extents for source in node.sources}) > 1))
 
@@ -248,15 +254,16 @@ def broadcasts():
         yield f'broadcast does not compare result axis {axis}', {'broadcast': loose(lambda k, rank, a=axis: k == a)}
         yield f'broadcast does not compare axis {axis + 1} from the last', {
             'broadcast': loose(lambda k, rank, a=axis: rank - 1 - k == a)}
-        for ops, role in ((BINARY, 0), (BINARY, 1), ((WHERE,), 0), ((WHERE,), 1), ((WHERE,), 2)):
+        for ops, role in ((BINARY, 0), (BINARY, 1), ((WHERE,), 0), ((WHERE,), 1), ((WHERE,), 2),
+                          ((FILL,), 0), ((FILL,), 1)):
             yield f'source {role + 1} of {named(ops)} is read at 0 on its axis {axis + 1} from the last', {
                 'element_value': read_at_0(ops, [role], lambda k, rank, own, a=axis: own - 1 - k == a)}
-    for op in (*BINARY, WHERE):
+    for op in (*BINARY, WHERE, FILL):
         for role in range(3 if op == WHERE else 2):
             yield f'source {role + 1} of {NAMES[op]} is read at 0', {
                 'element_value': read_at_0((op,), [role], lambda *_: True)}
     for own, rank in combinations(range(1, 5), 2):
-        for ops, roles in ((BINARY, [0]), (BINARY, [1]), ((WHERE,), [0, 1, 2])):
+        for ops, roles in ((BINARY, [0]), (BINARY, [1]), ((WHERE,), [0, 1, 2]), ((FILL,), [0]), ((FILL,), [1])):
             yield f'source {roles[-1] + 1} of {named(ops)} is read at 0 with rank {own} under rank {rank}', {
                 'element_value': read_at_0(ops, roles, lambda k, r, o, wanted=(rank, own): (r, o) == wanted)}
     yield 'broadcast aligned on the left', {'broadcast': lambda several: RIGHT.broadcast(
@@ -357,9 +364,9 @@ def over(kept):
 
 def words():
     for word in range(1, 17):
-        ops = [op for op in range(21) if word not in RIGHT.USED_WORDS[op]]
+        ops = [op for op in range(OPERATIONS) if word not in RIGHT.USED_WORDS[op]]
         yield f'word {word} is not tested as unused', rule_seen(3, ops, setting(word, 0))
-    for op in range(21):
+    for op in range(OPERATIONS):
         yield f'unused words of {NAMES[op]} are not tested', excused(3, lambda node, o=op: node.op == o)
         if 6 not in RIGHT.USED_WORDS[op]:
             yield f'word 6 of {NAMES[op]} is not tested as unused', rule_seen(3, [op], setting(6, 0))
@@ -368,7 +375,7 @@ def words():
     yield 'an unused word below zero passes', rule(3, lambda node: any(
         node.words[word] > 0 for word in range(1, 17) if not node.uses(word)))
     for word in (1, 2, 3):
-        ops = [op for op in range(21) if word in RIGHT.USED_WORDS[op]]
+        ops = [op for op in range(OPERATIONS) if word in RIGHT.USED_WORDS[op]]
         yield f'source {word} may be negative', rule_seen(4, ops, setting(word, lambda w: max(w, 0)))
         yield f'source {word} may be later', rule_seen(4, ops, setting(word, lambda w: min(w, 0)))
     for op in (CONST, PARAM, CAST):
@@ -401,8 +408,8 @@ def types():
 
 
 def devices():
-    for op in (*BINARY, WHERE):
-        for role in range(3 if op == WHERE else 2):
+    for op in (*BINARY, WHERE, FILL, STACK):
+        for role in range(3 if op in (WHERE, STACK) else 2):
             yield f'the device of source {role + 1} of {NAMES[op]} does not count', of_result(
                 'result_devices', op, lambda node, _, r=role: {
                     source.device for k, source in enumerate(node.sources) if k != r} - {0})
@@ -510,7 +517,7 @@ def limits():
             for more in (-1, 1):
                 yield f'type {dtype} with its {side} end {more:+}', {'TYPE_LIMITS': {
                     **RIGHT.TYPE_LIMITS, dtype: tuple(e + more if k == end else e for k, e in enumerate(ends))}}
-    for ops in ([PARAM], [EXPAND], [PAD], BINARY, [WHERE]):
+    for ops in ([PARAM], [EXPAND], [PAD], BINARY, [WHERE], [FILL]):
         for most in (LARGE + 1, float('inf')):
             yield f'{named(ops)} of {most} elements passes', excused(8, lambda node, o=ops, m=most: (
                 node.op in o and RIGHT.result_extents(node) and LARGE < prod(RIGHT.result_extents(node)) <= m))
@@ -691,8 +698,8 @@ def values():
         yield name, {'where_value': value}
     for op in (*FOLLOWED, CAST):
         yield f'{NAMES[op]} makes a gap 0', element_of(op, lambda value: 0 if value is None else value)
-    for op in range(PERMUTE, LOAD + 1):
-        for rank in range(5):
+    for op in range(PERMUTE, OPERATIONS):
+        for rank in range(op == STACK, 5):
             yield f'{NAMES[op]} of rank {rank} is a gap', element_of(op, lambda value: None, rank)
     yield 'inputs are read from the last', {'all_fields': lambda table, records, values, flags: (
         RIGHT.all_fields(table, records, values[::-1], flags[::-1]))}
@@ -920,18 +927,26 @@ def lookup_by(followed=FOLLOWED, node_there=lambda node, nodes: node < nodes,
                 break
             extents, source = rest[node].extents, rest[words[1]].extents
             at = RIGHT.coordinates_at(element, extents)
-            at = RIGHT.source_coordinates(words, at, extents, source) if words[0] in FOLLOWED else at
+            node = words[1 + at[0]] if words[0] == STACK else words[1]
+            at = RIGHT.source_coordinates(words, at, extents, source) if words[0] in FOLLOWED else aligned(at, source)
             if at is None:
                 return Found(0, 0, 2, 0, 0)
-            node, element = words[1], RIGHT.element_at(at, source)
+            element = RIGHT.element_at(at, source)
         return Found(0, 0, 1, node, element)
     return {'lookup': wrong}
+
+
+def aligned(at, source):
+    """The same place in a source that is broadcast, or that is a part of a stack."""
+    own = at[len(at) - len(source):]
+    return tuple(0 if extent == 1 else k for k, extent in zip(own, source))
 
 
 def lookups():
     for op in FOLLOWED:
         yield f'a lookup does not follow {NAMES[op]}', lookup_by([o for o in FOLLOWED if o != op])
-    yield 'a lookup follows CAST', lookup_by((*FOLLOWED, CAST))
+    for op in (CAST, *NEW):
+        yield f'a lookup follows {NAMES[op]}', lookup_by((*FOLLOWED, op))
     yield 'a lookup follows one node', lookup_by(most=1)
     for name, test in (('one past the last', lambda at, count: at <= count),
                        ('not the last', lambda at, count: at < count - 1), ('any', lambda at, count: True),
@@ -965,12 +980,12 @@ def number_by(groups=5, last_0=lambda group: group > 0, base=128, ended=lambda f
     return {'read_number': wrong}
 
 
-def node_by(most=20, place=lambda first, after: first, op_of=lambda op: op, turn=1):
-    """read_node of other operations, with another place of 24 or order of words."""
-    def wrong(data, first):
+def node_by(limits=None, place=lambda first, after: first, op_of=lambda op: op, turn=1):
+    """read_node of other operations, by the highest of the edition; with another place of 24 or order of words."""
+    def wrong(data, first, highest):
         op, position = model.read_number(data, first)
         op = op_of(op)
-        if op > most:
+        if op > (limits or {}).get(highest, highest):
             raise RIGHT.Refused(24, place(first, position))
         words = [op] + [0] * 16
         for word in RIGHT.USED_WORDS[op][::turn]:
@@ -982,22 +997,24 @@ def node_by(most=20, place=lambda first, after: first, op_of=lambda op: op, turn
 
 def unpack_by(most=256, least=1, room=lambda room, count: room < 17 * count,
               left=lambda position, data: position < len(data), place=lambda position: position,
-              order=(23, 14, 22), early=0):
-    """unpack by other tests or in another order; early counts the words that a refusal by 22 writes."""
+              order=(23, 14, 22, 26), early=0, places=(0, 0)):
+    """unpack by other tests or in another order, with other places; early counts the words that a refusal by 22 or 26
+    writes, places are those of 23 and 26."""
     def wrong(data, table):
         words = []
         try:
-            count, position = model.read_number(data, 0)
+            highest, position = model.read_edition(data)
+            count, position = model.read_number(data, position)
             tests = {23: lambda: not least <= count <= most, 14: lambda: room(len(table), count),
-                     22: lambda: left(position, data)}
+                     22: lambda: left(position, data), 26: lambda: highest == STACK and not model.holds_new(words)}
             for number in order:
-                if number == 22:
+                if number in (22, 26) and not words:
                     for _ in range(count):
-                        node, position = model.read_node(data, position)
+                        node, position = model.read_node(data, position, highest)
                         words += node
                 if tests[number]():
-                    table[:early] = words[:early] if number == 22 else table[:early]
-                    raise RIGHT.Refused(number, place(position) if number == 22 else 0)
+                    table[:early] = words[:early] if number in (22, 26) else table[:early]
+                    raise RIGHT.Refused(number, {22: place(position), 23: places[0], 26: places[1]}.get(number, 0))
         except RIGHT.Refused as found:
             return Answer(*found.args, 0)
         table[:len(words)] = words
@@ -1016,8 +1033,7 @@ PACKED_SLIPS = (
     ('words below zero as −2n', {'word_of': lambda written: written // 2 * (-1) ** (written % 2)}),
     ('odd words above zero', {'word_of': lambda written: RIGHT.word_of(written ^ 1)}),
     ('words of 32 bits', {'word_of': lambda written: RIGHT.word_of(written % 2 ** 32)}),
-    ('no operation 20', node_by(19)), ('operation 21', node_by(21, op_of=lambda op: min(op, 21) % 21)),
-    ('24 after its number', node_by(place=lambda first, after: after)),
+    ('no operation 20', node_by({LOAD: 19})), ('24 after its number', node_by(place=lambda first, after: after)),
     ('operations of seven bits', node_by(op_of=lambda op: op % 128)), ('words in falling order', node_by(turn=-1)),
     ('bytes left over', unpack_by(left=lambda position, data: False)),
     ('22 at the byte after', unpack_by(place=lambda position: position + 1)),
@@ -1027,14 +1043,17 @@ PACKED_SLIPS = (
     ('one word less of room', unpack_by(room=lambda room, count: room < 17 * count - 1)),
     ('one word more of room', unpack_by(room=lambda room, count: room <= 17 * count)),
     ('exact room', unpack_by(room=lambda room, count: room != 17 * count)),
-    ('14 before 23', unpack_by(order=(14, 23, 22))), ('14 last', unpack_by(order=(23, 22, 14))),
+    ('14 before 23', unpack_by(order=(14, 23, 22, 26))), ('14 last', unpack_by(order=(23, 22, 26, 14))),
+    *((f'operations up to {most} in the first edition', node_by({LOAD: most})) for most in NEW),
+    *((f'operations up to {most} in the second edition', node_by({STACK: most})) for most in (LOAD, FILL, KNOWN)),
+    ('operation 24 in the second edition', node_by({STACK: 24}, op_of=lambda op: 22 if op == 24 else op)),
 )
 
 
 def packed():
     for name, patch in PACKED_SLIPS:
         yield f'packed: {name}', patch
-    for op in range(21):
+    for op in range(OPERATIONS):
         for word in range(1, 17):
             used = sorted({*RIGHT.USED_WORDS[op]} ^ {word})
             yield f'packed: word {word} of {NAMES[op]} the other way', in_call('unpack', {'USED_WORDS': tuple(
@@ -1168,17 +1187,20 @@ def packing_orders():
 
 
 def pack_by(length=RIGHT.length_wrong, room=lambda room, size, nodes: room < size, first=False, place=0,
-            count=lambda size, nodes, room: size, counted=lambda nodes: nodes, early=0, past=0, unwritten=0):
+            count=lambda size, nodes, room: size, counted=lambda nodes: nodes, early=0, past=0, unwritten=0,
+            joined=lambda edition, written: edition + written):
     """pack by other tests of length and room, with another count, or that writes other places. first: the room before
-    the nodes; early: the bytes that a refusal by 14 writes; past: the places past its bytes that it clears."""
+    the nodes; early: the bytes that a refusal by 14 writes; past: the places past its bytes that it clears; joined: the
+    bytes of the edition and those of the node count."""
     def wrong(table, buffer):
         nodes, data = len(table) // 17, []
         with patched({'length_wrong': length}):
             refusal = model.pack_refusal(table)
-        known = not RIGHT.length_wrong(table) and all(0 <= op <= 20 for op in table[::17])
+        known = not RIGHT.length_wrong(table) and all(0 <= op < OPERATIONS for op in table[::17])
         if refusal[0] == 0 or known:
+            edition = SECOND_EDITION if model.holds_new(table) else []
             data = sum((model.written_node(RIGHT.node_words(table, k)) for k in range(nodes)),
-                       model.written_number(counted(nodes)))
+                       joined(edition, model.written_number(counted(nodes))))
         short = room(len(buffer), len(data), nodes)
         if refusal[0] and not (first and known and short):
             return Answer(*refusal, 0)
@@ -1225,7 +1247,7 @@ def packs():
         yield f'pack: rule {number} is asked', {'pack_refusal': lambda table, n=number: (
             lambda found, verdict: verdict if found[0] == 0 and verdict[0] == n else found)(
                 RIGHT.pack_refusal(table), RIGHT.verdict(table))}
-    for op in range(21):
+    for op in range(OPERATIONS):
         for word in range(1, 17):
             turned = sorted({*RIGHT.USED_WORDS[op]} ^ {word})
             masks = tuple(tuple(turned) if k == op else right for k, right in enumerate(RIGHT.USED_WORDS))
@@ -1234,6 +1256,295 @@ def packs():
                 yield f'pack: word {word} of {NAMES[op]} is not written', written_by(masks)
             number = 25 if word in RIGHT.USED_WORDS[op] else 3
             yield f'pack: word {word} of {NAMES[op]} is not tested by {number}', pack_rule_seen(number, op, word)
+
+
+# ------------------------------------------------------------ second edition
+
+def fills(choice):
+    return {'fill_value': choice}
+
+
+def knows(flag):
+    return {'known_value': flag}
+
+
+def stacks(sources_of):
+    """STACK of other parts, by those that it has."""
+    return {'stack_value': lambda place, sources: RIGHT.stack_value(place, sources_of(sources))}
+
+
+def stacked_last(shapes):
+    found = RIGHT.stacked(shapes)
+    return found and (*found[1:], found[0])
+
+
+def interleaved(place, sources):
+    """The parts of a STACK cell by cell in turn, in the shape that is right."""
+    own = sources[0][0]
+    cell, part = divmod(RIGHT.element_at(place, (len(sources), *own)), len(sources))
+    return sources[part][1][RIGHT.coordinates_at(cell, own)]
+
+
+def gap_by(parts_of):
+    """A STACK that is a gap where one of these parts is."""
+    return {'stack_value': lambda place, sources: None if None in [
+        field[place[1:]] for _, field in parts_of(sources)] else RIGHT.stack_value(place, sources)}
+
+
+# (02) "T where known, else C"; "1 where the source is known, else 0, never a gap"; "sources joined on a new leading axis"
+NEW_VALUES = (
+    ('FILL takes C where both are known', fills(lambda t, c: t if c is None else c)),
+    ('FILL is the greatest of both', fills(lambda t, c: RIGHT.fill_value(t, c) if None in (t, c) else max(t, c))),
+    ('FILL is the least of both', fills(lambda t, c: RIGHT.fill_value(t, c) if None in (t, c) else min(t, c))),
+    ('FILL is T', fills(lambda t, c: t)), ('FILL is C', fills(lambda t, c: c)),
+    ('FILL is a gap where C is', fills(lambda t, c: None if c is None else RIGHT.fill_value(t, c))),
+    ('FILL is 0 where both are gaps', fills(lambda t, c: RIGHT.fill_value(t, c) or 0)),
+    ('FILL takes C for a T of 0', fills(lambda t, c: t or c)),
+    ('KNOWN is a gap where its source is', knows(lambda value: None if value is None else 1)),
+    ('KNOWN turned round', knows(lambda value: int(value is None))),
+    ('KNOWN is 1', knows(lambda value: 1)), ('KNOWN is 0', knows(lambda value: 0)),
+    ('KNOWN of 0 is 0', knows(lambda value: int(bool(value)))),
+    ('KNOWN is the number', knows(lambda value: value or 0)),
+    ('STACK from its last source', stacks(lambda sources: sources[::-1])),
+    ('STACK with its first two sources exchanged', stacks(lambda sources: [sources[1], sources[0], *sources[2:]])),
+    ('STACK with its last two sources exchanged', stacks(lambda sources: [*sources[:-2], *sources[:-3:-1]])),
+    ('STACK of its first source alone', stacks(lambda sources: sources[:1] * 3)),
+    ('STACK with its second source for the third', stacks(lambda sources: [*sources[:2], sources[1]])),
+    ('STACK of three with its first source for the third', stacks(lambda sources: [*sources[:2], sources[0]])),
+    ('STACK on a last axis', {'stacked': stacked_last,
+                              'stack_value': lambda place, sources: sources[place[-1]][1][place[:-1]]}),
+    ('STACK of cells in turn', {'stack_value': interleaved}),
+    ('STACK makes a gap 0', {'stack_value': lambda place, sources: RIGHT.stack_value(place, sources) or 0}),
+    ('STACK is a gap where any source is', gap_by(lambda sources: sources)),
+    ('STACK is a gap where its first source is', gap_by(lambda sources: sources[:1])),
+)
+
+
+def bounds_of(op, ends):
+    """Other bounds of a new operation, by the lows and the highs of its sources."""
+    return of_result('result_interval', op, lambda node, _: ends(
+        [source.low for source in node.sources], [source.high for source in node.sources]))
+
+
+def new_bounds():
+    for op in (FILL, STACK):
+        for name, ends in (('the bounds of its first source', lambda lows, highs: (lows[0], highs[0])),
+                           ('the bounds of its last source', lambda lows, highs: (lows[-1], highs[-1])),
+                           ('the low bound of its first source', lambda lows, highs: (lows[0], max(highs))),
+                           ('the high bound of its first source', lambda lows, highs: (min(lows), highs[0])),
+                           ('what its sources share', lambda lows, highs: (max(lows), min(highs)))):
+            yield f'{NAMES[op]} has {name}', bounds_of(op, ends)
+        yield f'{NAMES[op]} has the bounds of its type', of_result(
+            'result_interval', op, lambda node, _: RIGHT.TYPE_LIMITS[RIGHT.result_dtype(node)])
+    yield 'STACK has the bounds of its first two sources', bounds_of(
+        STACK, lambda lows, highs: (min(lows[:2]), max(highs[:2])))
+    yield 'STACK has the bounds of its last two sources', bounds_of(
+        STACK, lambda lows, highs: (min(lows[-2:]), max(highs[-2:])))
+    yield 'KNOWN has the bounds of its source', bounds_of(KNOWN, lambda lows, highs: (lows[0], highs[0]))
+    for ends in ((1, 1), (0, 0)):
+        yield f'KNOWN has the bounds {ends}', bounds_of(KNOWN, lambda lows, highs, e=ends: e)
+    yield 'KNOWN of a single number has the bounds [1,1]', bounds_of(
+        KNOWN, lambda lows, highs: (int(lows == highs), 1))
+
+
+def has_number(node, *numbers):
+    return node.op == STACK and node.words[5] in numbers
+
+
+def third(node):
+    """The node that word 3 of a STACK would name, or None where it is not there."""
+    return node.earlier[node.words[3]] if 0 <= node.words[3] < len(node.earlier) else None
+
+
+def of_node_0(feature):
+    """Whether node 0 has another feature than the first source of a STACK of two."""
+    return lambda node: has_number(node, 2) and getattr(node.earlier[0], feature) != getattr(node.sources[0], feature)
+
+
+def without(items, k):
+    return [item for j, item in enumerate(items) if j != k]
+
+
+def new_rules():
+    """(02) "STACK's number, or a word 3 not zero with number 2, is 7 (rules 4 and 6 read word 3 only with number 3), its
+    shapes and rank 8.\""""
+    for most in (LOAD, FILL, KNOWN, 24):
+        yield f'operations up to {most}', rule(2, lambda node, m=most: not 0 <= node.op <= m)
+    for op in (FILL, STACK):
+        yield f'{NAMES[op]} takes two types', excused(6, lambda node, o=op: node.op == o)
+    for op in NEW:
+        yield f'{NAMES[op]} refuses bools', refused(6, lambda node, o=op: node.op == o and BOOL in dtypes(node))
+        yield f'{NAMES[op]} has the type i32', of_result('result_dtype', op, lambda node, _: I32)
+    yield 'KNOWN has the type of its source', of_result('result_dtype', KNOWN, lambda node, _: dtypes(node)[0])
+    for k in range(3):
+        yield f'STACK does not compare the type of source {k + 1}', excused(6, lambda node, k=k: (
+            has_number(node, 3) and len({*without(dtypes(node), k)}) == 1))
+        yield f'STACK does not compare the shape of source {k + 1}', {'stacked': lambda shapes, k=k: RIGHT.stacked(
+            without(shapes, k)[:1] * 3 if len(shapes) == 3 and len({*without(shapes, k)}) == 1 else shapes)}
+    for number in (0, 1, 4, -1):
+        yield f'STACK by number {number}', excused(7, lambda node, n=number: has_number(node, n))
+    for word in (3, 5):
+        yield f'rule 7 sees the low half of word {word} of STACK', rule_seen(7, [STACK], setting(word, low_half))
+    yield 'STACK of two with a word 3 not zero', excused(7, lambda node: has_number(node, 2))
+    for name, test in (('above', lambda word: word > 0), ('below', lambda word: word < 0)):
+        yield f'STACK of two with a word 3 {name} zero', excused(
+            7, lambda node, t=test: has_number(node, 2) and t(node.words[3]))
+    yield 'STACK of three with a word 3 of zero is refused', refused(
+        7, lambda node: has_number(node, 3) and node.words[3] == 0)
+    yield 'a word 3 of STACK not zero is 3 with number 2', refused(
+        3, lambda node: has_number(node, 2) and node.words[3] != 0)
+    yield 'a word 3 of STACK not zero is 3 without number 3', refused(
+        3, lambda node: node.op == STACK and not has_number(node, 3) and node.words[3] != 0)
+    for name, numbers in (('number 2', (2,)), ('any number but 2', (0, 1, 4, -1))):
+        yield f'rule 4 reads word 3 of STACK with {name}', refused(
+            4, lambda node, n=numbers: has_number(node, *n) and third(node) is None)
+        yield f'rule 6 reads word 3 of STACK with {name}', refused(6, lambda node, n=numbers: (
+            has_number(node, *n) and third(node) is not None and third(node).dtype != dtypes(node)[0]))
+    yield 'STACK: 7 before 6', excused(6, lambda node: node.op == STACK and RULES[7](node))
+    yield 'STACK: 7 before 4', rules({number: lambda node, n=number: RULES[n](node) and not (
+        node.op == STACK and RULES[7](node)) for number in (4, 6)})
+
+
+def new_shapes():
+    for most in (2, 4):
+        yield f'STACK of rank {most} at most', {'MOST_STACKED_RANK': most}
+    for name, feature in (('rank', len), ('count', prod)):
+        yield f'STACK compares the {name} of its sources alone', {'stacked': lambda shapes, f=feature: RIGHT.stacked(
+            shapes[:1] * len(shapes) if len({*map(f, shapes)}) == 1 else shapes)}
+    yield 'STACK broadcasts', {'stacked': lambda shapes: RIGHT.broadcast(shapes) and RIGHT.stacked(
+        [RIGHT.broadcast(shapes)] * len(shapes))}
+    yield 'STACK is three long', {'stacked': lambda shapes: RIGHT.stacked(shapes) and (3, *shapes[0])}
+    for most in (LARGE + 2, float('inf')):
+        yield f'STACK of {most} elements passes', excused(8, lambda node, m=most: (
+            node.op == STACK and RIGHT.result_extents(node) and LARGE < prod(RIGHT.result_extents(node)) <= m))
+    yield 'STACK of 1048576 elements is refused', refused(8, lambda node: (
+        node.op == STACK and RIGHT.result_extents(node) and prod(RIGHT.result_extents(node)) == LARGE))
+    yield 'KNOWN has no axes', of_result('result_extents', KNOWN, lambda node, _: ())
+
+
+def with_node_0():
+    """(02) "with number 2, word 3 is zero": it is not node 0."""
+    for number, feature in ((6, 'dtype'), (8, 'extents'), (9, 'device')):
+        yield f'STACK of two: rule {number} asks node 0', refused(number, of_node_0(feature))
+    yield 'STACK of two has the bounds of node 0 too', of_result('result_interval', STACK, lambda node, right: (
+        right if has_number(node, 3) else (min(right[0], node.earlier[0].low), max(right[1], node.earlier[0].high))))
+    yield 'STACK of two has the device of node 0 too', of_result('result_devices', STACK, lambda node, right: (
+        right if has_number(node, 3) else right | {node.earlier[0].device} - {0}))
+    yield 'STACK of two has node 0 as a third source', {'source_words': lambda words: (
+        [1, 2, 3] if words[0] == STACK and words[5] in (2, 3) else RIGHT.source_words(words))}
+
+
+def new_devices():
+    """(02) "All three carry devices as binary operations do\""""
+    for op in NEW:
+        yield f'{NAMES[op]} has no device', of_result('result_devices', op, lambda node, _: set())
+    for op in (FILL, STACK):
+        yield f'two devices meet in {NAMES[op]}', excused(9, lambda node, o=op: node.op == o)
+
+
+def edition_by(editions=(2,), lone=(23, 0), other=(23, 0), start=2):
+    """read_edition that reads other editions, or from another place on, or refuses otherwise."""
+    def wrong(data):
+        if not data or data[0] != 0:
+            return LOAD, 0
+        if len(data) == 1:
+            raise RIGHT.Refused(*lone)
+        if data[1] not in editions:
+            raise RIGHT.Refused(*other)
+        return STACK, start
+    return {'read_edition': wrong}
+
+
+def edition_as_number(data):
+    """read_edition where the number of the edition is one as others are."""
+    if not data or data[0] != 0:
+        return LOAD, 0
+    edition, start = RIGHT.read_number(data, 1)
+    if edition != 2:
+        raise RIGHT.Refused(23, 0)
+    return STACK, start
+
+
+def padded_edition(data):
+    """read_edition that takes 82 00 for 02."""
+    return (STACK, 3) if data[:3] == bytes.fromhex('008200') else RIGHT.read_edition(data)
+
+
+def places_by(change):
+    """unpack with another place of 20, 21, 22 and 24 in a second edition file, by the place and the number."""
+    def wrong(data, table):
+        answer = RIGHT.unpack(data, table)
+        if answer.number in (20, 21, 22, 24) and [*data[:2]] == SECOND_EDITION:
+            return answer._replace(place=change(answer.place, answer.number))
+        return answer
+    return {'unpack': wrong}
+
+
+def new_of(ops, nodes=slice(None)):
+    """holds_new of other operations, or of some nodes alone."""
+    return {'holds_new': lambda table: any(op in ops for op in table[::17][nodes])}
+
+
+READER_SLIPS = (
+    ('no second edition', edition_by(())), ('edition 3 too', edition_by((2, 3))), ('edition 1 too', edition_by((1, 2))),
+    ('edition 0 too', edition_by((0, 2))), ('any edition', edition_by(range(256))),
+    ('edition 3', edition_by((3,))), ('the edition as a number', {'read_edition': edition_as_number}),
+    ('82 00 for the edition', {'read_edition': padded_edition}),
+    ('a lone 00 is 20 at 0', edition_by(lone=(20, 0))), ('a lone 00 is 20 at 1', edition_by(lone=(20, 1))),
+    ('another edition is 24', edition_by(other=(24, 1))),
+    ('23 of the edition at 1', edition_by(other=(23, 1))), ('23 of a lone 00 at 1', edition_by(lone=(23, 1))),
+    ('23 of the count at 2', unpack_by(places=(2, 0))),
+    ('the count of a second edition file from 0', edition_by(start=0)),
+    ('the count of a second edition file from 1', edition_by(start=1)),
+    ('places from the count', places_by(lambda place, number: place - 2)),
+    ('20 and 21 of the count at 0', places_by(lambda place, number: 0 if place == 2 and number in (20, 21) else place)),
+    ('26 is not asked', unpack_by(order=(23, 14, 22))), ('26 before 22', unpack_by(order=(23, 14, 26, 22))),
+    ('26 before 14', unpack_by(order=(23, 26, 14, 22))), ('26 at 2', unpack_by(places=(0, 2))),
+    ('26 at 1', unpack_by(places=(0, 1))), ('26 with words written', unpack_by(early=1)),
+)
+WRITER_SLIPS = (
+    ('always the second edition', {'holds_new': lambda table: True}),
+    ('never the second edition', {'holds_new': lambda table: False}),
+    ('the second edition for LOAD too', new_of((LOAD, *NEW))),
+)
+HEADER_SLIPS = (
+    ('the count before the edition', pack_by(joined=lambda edition, written: written + edition)),
+    ('the edition turned round', pack_by(joined=lambda edition, written: edition[::-1] + written)),
+    ('edition 3', pack_by(joined=lambda edition, written: [0, 3][:len(edition)] + written)),
+    ('the edition without 00', pack_by(joined=lambda edition, written: edition[1:] + written)),
+)
+
+
+def editions():
+    for name, patch in READER_SLIPS:
+        yield f'second edition: {name}', patch
+    for name, patch in (*((name, in_call('pack', patch)) for name, patch in WRITER_SLIPS), *HEADER_SLIPS):
+        yield f'pack: {name}', patch
+    for call in ('unpack', 'pack'):
+        for op in NEW:
+            yield f'{call}: {NAMES[op]} is no new operation', in_call(call, new_of([new for new in NEW if new != op]))
+        for name, nodes in (('first', slice(0, 1)), ('last', slice(-1, None))):
+            yield f'{call}: the {name} node alone can be a new operation', in_call(call, new_of(NEW, nodes))
+    for name, room, count in (('room', lambda room, size, nodes, more: room < size - more, lambda size, more: size),
+                              ('length', lambda room, size, nodes, more: room < size, lambda size, more: size - more)):
+        yield f'pack: the {name} without the edition', without_edition(room, count)
+    for most in (LOAD, FILL, KNOWN, 24):
+        yield f'pack: operations up to {most}', pack_rule(2, lambda node, m=most: not 0 <= node.op <= m)
+
+
+def without_edition(room, count):
+    """pack whose room or length leaves the bytes of the edition out."""
+    def wrong(table, buffer):
+        more = 2 if not RIGHT.length_wrong(table) and RIGHT.holds_new(table) else 0
+        other = pack_by(room=lambda *several: room(*several, more), count=lambda size, *_: count(size, more))
+        return other['pack'](table, buffer)
+    return {'pack': wrong}
+
+
+def new_operations():
+    yield from NEW_VALUES
+    for family in (new_bounds, new_rules, new_shapes, with_node_0, new_devices):
+        yield from family()
 
 
 # ------------------------------------------------------------- one set only
@@ -1256,15 +1567,16 @@ def bytes_wide():
 CONTROLS = (
     *((f'fit of {NAMES[op]}', fitting(op, lambda a, *three, f=right: f(*three))) for op, right in FITS.items()),
     ('count of RESHAPE', reshaped(None, None)), ('broadcast', {'broadcast': loose(lambda *_: False)}),
-    ('operands', {'element_value': read_at_0((*BINARY, WHERE), [0, 1, 2], lambda *_: False)}),
+    ('operands', {'element_value': read_at_0((*BINARY, WHERE, FILL), [0, 1, 2], lambda *_: False)}),
     ('range of i16', i16_range_of(CONST, -32767, 32767)), ('flags', flags_seen(lambda d, value, flag: flag)),
     ('rule 12', {'verdict': over(lambda counts: counts)}), ('reduction', reduced()), ('inputs', scanned()),
     ('run', run_by()), ('check', check_by()), ('lookup', lookup_by()), ('number', number_by()), ('node', node_by()),
-    ('unpack', unpack_by()), ('written number', groups_by()), ('written node', written_by()), ('pack', pack_by()),
+    ('unpack', unpack_by()), ('edition', edition_by()), ('written number', groups_by()), ('written node', written_by()),
+    ('pack', pack_by()),
     ('range of pack', range_of(LEAST, GREATEST)), ('rules of pack', pack_rule(0, None)),
 )
 FAMILIES = (movements, shapes, broadcasts, orders, words, types, devices, numbers, rows, limits, ranges, bounds, values,
-            reductions, inputs, no_readings, runs, checks, lookups, packed, packs)
+            reductions, inputs, no_readings, runs, checks, lookups, packed, packs, new_operations, editions)
 ONE_SET_ONLY = (
     ('agreement', listings, 'the program vectors lists nothing'),
     ('vectors', bytes_wide, 'the runs of the tables have less than 200 elements'),

@@ -33,6 +33,7 @@ import run_cases  # noqa: E402
 import run_examples  # noqa: E402
 import wording  # noqa: E402
 from counting import Cases  # noqa: E402
+from test_host import FILLED, FILLING, FILLING_NODES  # noqa: E402
 from watched import forms, watching  # noqa: E402
 
 try:
@@ -415,6 +416,7 @@ def test_rules(tally, lups):
     for lup in lups:
         tally.same('the words of lup', {number: said for number, (_, said) in lup.RULES.items()}, rules)
         tally.same('its words on rule 7', lup.ROWS, c_words(text, 'ROWS'))
+        tally.same('its words on rule 8', lup.SHAPES, c_words(text, 'SHAPES'))
         for refusal, said in ((lup.Refused(99, 3), 'refused 99: a rule that this module does not know'),
                               (lup.Refused(8, 14), 'refused 8 at node 14: shapes disagree, or over 1048576 elements')):
             tally.same('number and place alone', str(refusal), said)
@@ -438,7 +440,8 @@ def refused_plans(count, seed):
 def test_plan_words(tally, lups):
     """What is said of a plan is what lup says, by the wording that lup's own tests have."""
     found = refused_plans(6, 3)
-    tally.same('every number', sorted(found), [4, 5, 6, 7, 8, 9, 10, 11, 12, 20, 21, 22, 23, 24])
+    found.setdefault(26, set()).add(NO_NEW)
+    tally.same('every number', sorted(found), [4, 5, 6, 7, 8, 9, 10, 11, 12, 20, 21, 22, 23, 24, 26])
     for lup in lups:
         for data in sorted(set().union(*found.values())):
             wanted = 'Refused', wording.refusal_text('x', data).removeprefix('lup: x: ').rstrip('\n')
@@ -446,8 +449,8 @@ def test_plan_words(tally, lups):
     for lup in lups:
         for table, message in (([1] * 35, 'refused 1: length no multiple of 17, or not 1..256 nodes: 35 words'),
                                ([], 'refused 1: length no multiple of 17, or not 1..256 nodes: 0 words'),
-                               ([*SMALL, 99, *[0] * 16], 'refused 2 at node 2 (operation 99): operation not 0..20'),
-                               ([*SMALL, -1, *[0] * 16], 'refused 2 at node 2 (operation -1): operation not 0..20'),
+                               ([*SMALL, 99, *[0] * 16], 'refused 2 at node 2 (operation 99): operation not 0..23'),
+                               ([*SMALL, -1, *[0] * 16], 'refused 2 at node 2 (operation -1): operation not 0..23'),
                                ([9, 0, 0, 1, *[0] * 13], 'refused 3 at node 0 (ADD): unused word not zero')):
             for call in (lup.check, lup.Plan.of_table, lup.pack):
                 tally.same(message, words(call, table), ('Refused', message))
@@ -459,7 +462,9 @@ OUTSIDE = 'a used word not in -17179869184..17179869183'
 # Tables that cannot be packed: number, place, what follows the number.
 NOT_PACKED = (
     (1, 0, ': length no multiple of 17, or not 1..256 nodes: 4369 words', cases.const(0, 1) * 257),
-    (2, 0, ' at node 0 (operation 21): operation not 0..20', cases.node(21, dict.fromkeys(range(1, 17), MOST + 1))),
+    (2, 0, ' at node 0 (operation 24): operation not 0..23', cases.node(24, dict.fromkeys(range(1, 17), MOST + 1))),
+    (3, 0, ' at node 0 (KNOWN): unused word not zero', cases.node(22, {1: MOST + 1, 2: 1})),
+    (25, 1, f' at node 1 (STACK): {OUTSIDE}: word 3 is {MOST + 1}', SMALL[:17] + cases.node(23, {3: MOST + 1, 5: 2})),
     (3, 1, ' at node 1 (ADD): unused word not zero', SMALL[:17] + cases.node(9, {1: MOST + 1, 3: MOST + 1})),
     (25, 0, f' at node 0 (CONST): {OUTSIDE}: word 4 is {MOST + 1}', cases.node(0, {4: MOST + 1, 5: LEAST - 1}) + cases.node(99)),
     (25, 2, f' at node 2 (SHRINK): {OUTSIDE}: word 16 is {LEAST - 1}', SMALL + cases.node(7, {1: MOST, 9: LEAST, 16: LEAST - 1})),
@@ -513,11 +518,64 @@ def test_run_words(tally, lups):
 
 
 def test_unpacking(tally, lups):
-    for data in map(bytes.fromhex, ('', '010004', '8000', '0115', '0100040A00')):
+    for data in map(bytes.fromhex, ('', '010004', '8000', '0115', '0100040A00', '00', '008200', '0002', '00028000', '000200', '00020118', NO_NEW.hex(),
+                                    '00020100040A00')):
         answer = model.unpack(data, [0] * 4352)
         with tally.case(('unpack', data.hex())):
             for lup in lups:
                 tally.same(data.hex(), told(lup, lup.unpack, data), tuple(answer[:2]))
+
+
+def test_filling(tally, lups):
+    """FILL, KNOWN and STACK in a run, numbers, gaps and bounds by hand; a lookup stops at them."""
+    cells = sum(FILLED, ())
+    values, flags = [0 if cell is None else cell for cell in cells], [int(cell is not None) for cell in cells]
+    for lup in lups:
+        plan = lup.Plan.of_table(FILLING)
+        for arguments in ((values, flags), *([(masked(values, flags),)] if lup.numpy else [])):
+            result = plan.run(*arguments)
+            for number, (name, extents, wanted, bounds) in FILLING_NODES.items():
+                tally.same((name, number), (lup.OPERATIONS[FILLING[17 * number]], result.cells(number)), (name, list(wanted)))
+                record = result.records[number]
+                tally.same((name, number, 'derived'), (record.extents, record.low, record.high), (extents, *bounds))
+                tally.same((name, number, 'its place'), plan.lookup(number, 1), (number, 1))
+            tally.same('the gaps of the output', result.gaps, list(wanted).count(None))
+        tally.same('a KNOWN of gaps alone', lup.run(cases.param(0, 2, 0, 9, (2,)) + cases.apply(22, 0), [5, 5], [0, 0]).cells(-1), [0, 0])
+
+
+# Tables and their files of both editions by hand.
+EDITIONS = (
+    (cases.const(2, 5), '01 00 04 0A'),
+    (cases.const(2, 5) + cases.apply(22, 0), '00 02 02 00 04 0A 16 00'),
+    (cases.const(2, 5) + cases.apply(21, 0, 0) + cases.apply(9, 0, 1), '00 02 03 00 04 0A 15 00 00 09 00 02'),
+    (cases.const(2, 5) + cases.node(23, {1: 0, 2: 0, 5: 2}), '00 02 02 00 04 0A 17 00 00 00 04'),
+    (cases.const(2, 5) + cases.node(23, {1: 0, 2: 0, 3: 0, 5: 3}), '00 02 02 00 04 0A 17 00 00 00 06'),
+)
+NO_NEW = bytes.fromhex('00020100040A')
+# What is refused of editions and of the three operations, word for word.
+REFUSED = (
+    ('00 02 01 00 04 0A', 'refused 26 at byte 0: second edition file with no operation 21..23'),
+    ('00', 'refused 23 at byte 0: node count not 1..256, or a first byte 0 without a 2 after it'),
+    ('01 16 00', 'refused 24 at byte 1: operation not 0..20, in a second edition file not 0..23'),
+    ('00 02 02 00 04 0A 17 00 00 02 04', 'refused 7 at node 1 (STACK): row or number wrong: number neither 2 nor 3, or word 3 not 0 with number 2'),
+    ('00 02 03 00 04 0A 04 00 02 00 00 00 17 00 02 00 04', 'refused 8 at node 2 (STACK): shapes disagree, or over 1048576 elements: '
+                                                           'sources not of one shape, of a rank over 3, or of over 1048576 elements together'),
+)
+
+
+def test_editions(tally, lups):
+    """The bytes of both editions; a plan has one file."""
+    for lup in lups:
+        for table, written in EDITIONS:
+            data = bytes.fromhex(written)
+            with watching(tally, lup):
+                tally.same(('pack', written), lup.pack(table), data)
+                tally.same(('unpack', written), (lup.unpack(data).tolist(), lup.unpack_check(data)), (table, len(table) // 17))
+                tally.same(('a Plan', written), lup.pack(lup.Plan(data)), data)
+        for data, said in REFUSED:
+            for call in (lup.unpack_check, lup.Plan):
+                tally.same(said, words(call, bytes.fromhex(data)), ('Refused', said))
+        tally.same('number and place', told(lup, lup.unpack, NO_NEW), (26, 0))
 
 
 def in_child(table, values, flags):
@@ -635,7 +693,7 @@ def main():
     test_examples(tally, lups, rng)
     test_plans(tally, lups, rng, count)
     test_unpacking(tally, lups)
-    for test in (test_forms, test_no_copy, test_sequences, test_rules, test_plan_words, test_packing, test_run_words, test_pickling,
+    for test in (test_filling, test_editions, test_forms, test_no_copy, test_sequences, test_rules, test_plan_words, test_packing, test_run_words, test_pickling,
                  test_plan_object, test_checked_once, test_hints):
         with tally.case(test.__name__):
             test(tally, lups)

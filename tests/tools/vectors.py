@@ -23,10 +23,10 @@ import lookup_examples
 import model
 import pack_examples
 import run_examples
-from cases import (BIG, LARGE, apply, at_axis, const, fresh_words, large, load, move, node, pack, param,
-                   reduce_node, smallest)
-from model import (ADD, AND, CAST, CMPLT, CMPNE, EXPAND, FLIP, IDIV, MAX, MOD, MUL, OR, PAD, PERMUTE, RESHAPE,
-                   SHRINK, WHERE)
+from cases import (BIG, LARGE, UNKNOWN, apply, at_axis, const, fresh_words, large, load, move, node, pack, param,
+                   reduce_node, smallest, stack)
+from model import (ADD, AND, CAST, CMPLT, CMPNE, EXPAND, FILL, FLIP, IDIV, KNOWN, MAX, MOD, MUL, OR, PAD, PERMUTE,
+                   RESHAPE, SHRINK, STACK, WHERE)
 
 FRAMES = os.path.join(ROOT, 'crates', 'vectors', 'stdin')
 OUTPUT = os.path.join(ROOT, 'crates', 'vectors', 'stdout')
@@ -124,19 +124,24 @@ OPERATIONS = (
     ('WHERE', apply(WHERE, 2, 0, 1), (I16, 1, -4, 10, 2, 3), (1, 2, 3)),
     ('REDUCE', reduce_node(0, 0, (0, 1)), (I16, 1, -12, 30, 2, 1), (1, 5, *ROW_A)),
     ('LOAD', load(0, 9), (I16, 9, -4, 10, 2, 3), (1, 6)),
+    # (02) "Model people want three operations."
+    ('FILL', apply(FILL, 1, 0), (I16, 1, -4, 10, 2, 3), (1, 2)),
+    ('KNOWN', apply(KNOWN, 0), (BOOL, 1, 0, 1, 2, 3), (1,)),
+    ('STACK', stack(0, 0), (I16, 1, -4, 10, 2, 2, 3), (1, 2, 3, 5)),
 )
 BY_OPERATION = [accepted(f'{name} is accepted', BASE + words, *BASE_ROWS, row)
                 for name, words, row, _ in OPERATIONS]
 # The same without axes, on a CONST of 1 (a bool for AND, OR and WHERE), every other word 0 but for the device that
-# PARAM and LOAD name.
+# PARAM and LOAD name and the number 2 of STACK.
 ONE = (I16, 0, 1, 1)
 SMALLEST_ROWS = ((BOOL, 0, 0, 0), (BOOL, 9, 0, 0), *[ONE] * 6, (BOOL, 0, 1, 1), (I16, 0, 2, 2), *[ONE] * 3,
-                 (I16, 0, 0, 0), *[(BOOL, 0, 0, 0)] * 2, *[(BOOL, 0, 1, 1)] * 3, ONE, (I16, 9, 1, 1))
+                 (I16, 0, 0, 0), *[(BOOL, 0, 0, 0)] * 2, *[(BOOL, 0, 1, 1)] * 3, ONE, (I16, 9, 1, 1), ONE,
+                 (BOOL, 0, 0, 1), (I16, 0, 1, 1, 2))
 BY_OPERATION += [accepted(f'{OPERATIONS[op][0]} of no axes is accepted', smallest(op, {}),
                           (BOOL, 0, 1, 1) if op in (AND, OR, WHERE) else ONE, row)
                  for op, row in enumerate(SMALLEST_ROWS)]
-# 3 "unused word not zero"
-UNUSED = [refused(f'{name} with word {k} not zero', 3, 1, smallest(op, {k: 1}))
+# 3 "unused word not zero", which comes before 14
+UNUSED = [refused(f'{name} with word {k} not zero', 3, 1, smallest(op, {k: 1}), room=k % 3)
           for op, (name, _, _, used) in enumerate(OPERATIONS) for k in range(1, 17) if k not in used]
 UNUSED += [
     refused('unused word negative', 3, 0, changed(const(I16, 5), (9, -1))),
@@ -205,6 +210,15 @@ BOUNDS = (
     (CMPNE, I16, (4, 4), (4, 9), (0, 1)),
     (CMPNE, BOOL, (0, 0), (1, 1), (1, 1)),
     (CMPNE, BOOL, (0, 1), (1, 1), (0, 1)),
+    # (02) FILL "bounds least low and greatest high", whether T has gaps or not
+    (FILL, I16, (-3, 2), (-5, 4), (-5, 4)),
+    (FILL, I16, (-5, 4), (-3, 2), (-5, 4)),
+    (FILL, I16, (5, 9), (-7, -3), (-7, 9)),
+    (FILL, I16, (-7, -3), (5, 9), (-7, 9)),
+    (FILL, I16, (3, 3), (3, 3), (3, 3)),
+    (FILL, BOOL, (0, 0), (1, 1), (0, 1)),
+    (FILL, U8, (0, 0), (255, 255), (0, 255)),
+    (FILL, I32, (2147483647, 2147483647), (-2147483648, -2147483648), (-2147483648, 2147483647)),
 )
 
 
@@ -373,6 +387,136 @@ DEVICES = [
              (BOOL, 0, 1, 1), (I16, 0, 5, 5), (I16, 7, 0, 1), (I16, 7, 0, 5)),
 ]
 
+# -------------------------------------------------- the second edition's three
+
+def stacked(first, second, word_3, number):
+    return node(STACK, {1: first, 2: second, 3: word_3, 5: number})
+
+
+LOW, HIGH = scalar(0, I16, -9, -3), scalar(1, I16, 4, 7)
+LOW_ROW, HIGH_ROW = (I16, 1, -9, -3), (I16, 1, 4, 7)
+# Node 0 is of another type, shape and device than nodes 1 and 2, and has wider bounds.
+APART = param(0, I32, -99, 99, (4,), 9) + param(1, I16, -9, 1, (2,)) + param(2, I16, -1, 9, (2,))
+APART_ROWS = ((I32, 9, -99, 99, 4), (I16, 1, -9, 1, 2), (I16, 1, -1, 9, 2))
+ON_7 = const(I16, 5) + scalar(0, I16, 0, 1, 7)
+THREE_ACCEPTED = [
+    # (02) KNOWN: "bool, .. bounds [0,1]", always
+    *(accepted(f'KNOWN of {name}', source + apply(KNOWN, 0), row, (BOOL, row[1], 0, 1, *row[4:]))
+      for name, source, row in (('a CONST of 0', const(I16, 0), (I16, 0, 0, 0)),
+                                ('a CONST of 1', const(U8, 1), (U8, 0, 1, 1)),
+                                ('a true CONST', const(BOOL, 1), (BOOL, 0, 1, 1)),
+                                ('a false CONST', const(BOOL, 0), (BOOL, 0, 0, 0)),
+                                ('numbers above 1', scalar(0, I32, 5, 9), (I32, 1, 5, 9)),
+                                ('numbers below 0', scalar(0, I16, -9, -5), (I16, 1, -9, -5)),
+                                ('four axes', param(0, I16, 0, 1, (2, 3, 5, 7), 255), (I16, 255, 0, 1, 2, 3, 5, 7)),
+                                ('1048576 elements', param(0, I16, 0, 1, (1024, 1024)), (I16, 1, 0, 1, 1024, 1024)))),
+    # (02) STACK: "bounds least and greatest", of two and of three
+    accepted('STACK of two, the lower first', LOW + HIGH + stack(0, 1), LOW_ROW, HIGH_ROW, (I16, 1, -9, 7, 2)),
+    accepted('STACK of two, the higher first', LOW + HIGH + stack(1, 0), LOW_ROW, HIGH_ROW, (I16, 1, -9, 7, 2)),
+    *(accepted(f'STACK of three, the widest in place {place}', LOW + HIGH + scalar(2, I16, -20, 30) + stack(*sources),
+               LOW_ROW, HIGH_ROW, (I16, 1, -20, 30), (I16, 1, -20, 30, 3))
+      for place, sources in ((1, (2, 0, 1)), (2, (0, 2, 1)), (3, (0, 1, 2)))),
+    accepted('STACK of three, each end from another', LOW + HIGH + scalar(2, I16, 0, 1) + stack(2, 0, 1), LOW_ROW,
+             HIGH_ROW, (I16, 1, 0, 1),
+             (I16, 1, -9, 7, 3)),
+    accepted('STACK of the ends of i32', const(I32, -2147483648) + const(I32, 2147483647) + stack(1, 0),
+             (I32, 0, -2147483648, -2147483648),
+             (I32, 0, 2147483647, 2147483647), (I32, 0, -2147483648, 2147483647, 2)),
+    accepted('STACK of one node three times', LOW + stack(0, 0, 0), LOW_ROW, (I16, 1, -9, -3, 3)),
+    # (02) "joined on a new leading axis", "source rank at most 3"
+    *(accepted(f'STACK of {number} of rank {len(shape)}', param(0, I16, -4, 10, shape) + stack(*[0] * number),
+               (I16, 1, -4, 10, *shape),
+               (I16, 1, -4, 10, number, *shape)) for number in (2, 3) for shape in ((), (5,), (1, 4), (3, 1, 2))),
+    # every type, bool too
+    *(accepted(f'FILL, KNOWN and STACK of type {dtype}', const(dtype, 1) + apply(FILL, 0, 0) + apply(KNOWN, 0)
+               + stack(0, 1), (dtype, 0, 1, 1),
+               (dtype, 0, 1, 1), (BOOL, 0, 0, 1), (dtype, 0, 1, 1, 2)) for dtype in (BOOL, U8, I16, I32)),
+    # (02) "All three carry devices as binary operations do": node 0 has none, node 1 has device 7
+    accepted('the one device of FILL from either side', ON_7 + apply(FILL, 0, 1) + apply(FILL, 1, 0) + apply(FILL, 0, 0)
+             + apply(FILL, 1, 1),
+             (I16, 0, 5, 5), (I16, 7, 0, 1), (I16, 7, 0, 5), (I16, 7, 0, 5), (I16, 0, 5, 5), (I16, 7, 0, 1)),
+    accepted('the one device of STACK from each place',
+             ON_7 + stack(0, 1) + stack(1, 0) + stack(0, 0, 1) + stack(0, 1, 0) + stack(1, 0, 0) + stack(0, 0, 0),
+             (I16, 0, 5, 5), (I16, 7, 0, 1), *[(I16, 7, 0, 5, 2)] * 2, *[(I16, 7, 0, 5, 3)] * 3, (I16, 0, 5, 5, 3)),
+    accepted('the device of KNOWN', ON_7 + apply(KNOWN, 0) + apply(KNOWN, 1), (I16, 0, 5, 5), (I16, 7, 0, 1),
+             (BOOL, 0, 0, 1), (BOOL, 7, 0, 1)),
+    # (02) "with number 2, word 3 is zero": it is not node 0, for type, shape, device and bounds
+    accepted('STACK of two beside a node 0 that is apart', APART + stack(1, 2), *APART_ROWS, (I16, 1, -9, 9, 2, 2)),
+    accepted('STACK of three with node 0 as the third', LOW + HIGH + stack(1, 1, 0), LOW_ROW, HIGH_ROW,
+             (I16, 1, -9, 7, 3)),
+    # 8 "over 1048576 elements" is asked of the result
+    accepted('STACK of 1048576', large((512, 1024)) + stack(0, 0), (I32, 1, 0, 1, 512, 1024),
+             (I32, 1, 0, 1, 2, 512, 1024)),
+    accepted('STACK of 1048575', large((349525,)) + stack(0, 0, 0), (I32, 1, 0, 1, 349525), (I32, 1, 0, 1, 3, 349525)),
+    accepted('FILL of 1024x1 and 1024', large((1024, 1), (1024,)) + apply(FILL, 0, 1), (I32, 1, 0, 1, 1024, 1),
+             (I32, 1, 0, 1, 1024),
+             (I32, 1, 0, 1, 1024, 1024)),
+    *(accepted(f'FILL of {first} and {second}', large(first, second) + apply(FILL, 0, 1), (I32, 1, 0, 1, *first),
+               (I32, 1, 0, 1, *second), (I32, 1, 0, 1, *result))
+      for first, second, result in (((2, 3), (3,), (2, 3)), ((), (2, 3), (2, 3)),
+                                    ((4, 1, 3, 1), (2, 1, 5), (4, 2, 3, 5)))),
+]
+THREE_REFUSED = [
+    # (02) "same type"; "all shapes and types equal": 6
+    *(refused(f'{name} of {first} and {second}', 6, 2, const(first, 1) + const(second, 1) + words)
+      for first, second in ((BOOL, U8), (I16, I32)) for name, words in (
+          ('FILL', apply(FILL, 0, 1)), ('FILL turned', apply(FILL, 1, 0)), ('STACK', stack(0, 1)),
+          ('STACK with another first', stack(1, 0, 0)),
+          ('STACK with another second', stack(0, 1, 0)), ('STACK with another third', stack(0, 0, 1)))),
+    # (02) "STACK's number .. is 7"
+    *(refused(f'STACK by number {number}', 7, 1, LOW + stacked(0, 0, 0, number))
+      for number in (0, 1, 4, -1, -2, 2 ** 32 + 2, 2 ** 32 + 3, BIG - 1, -BIG)),
+    # (02) "or a word 3 not zero with number 2, is 7": not 3, and not 4, whether the node is there or not
+    *(refused(f'STACK of two with word 3 {word}', 7, 1, LOW + stacked(0, 0, word, 2))
+      for word in (1, 99, -1, 2 ** 32, BIG - 1, -BIG)),
+    refused('STACK of two with word 3 a node of its type', 7, 2, LOW + HIGH + stacked(0, 0, 1, 2)),
+    # (02) "rules 4 and 6 read word 3 only with number 3"
+    *(refused(f'STACK of three with word 3 {word}', 4, 1, LOW + stacked(0, 0, word, 3))
+      for word in (1, -1, 2 ** 32, BIG - 1, -BIG)),
+    *(refused(f'STACK by number {number} with word 3 {word}', 7, 1, LOW + stacked(0, 0, word, number))
+      for number, word in ((0, 1), (1, -1), (4, 1), (4, BIG - 1))),
+    refused('STACK of four with a word 3 of another type', 7, 3, APART + stacked(1, 2, 0, 4)),
+    refused('STACK of three with a word 3 of another type', 6, 3, APART + stacked(1, 2, 0, 3)),
+    *(refused(f'STACK with word {word} {value}', 4, 1, LOW + node(STACK, {5: 2, word: value}))
+      for word in (1, 2) for value in (1, -1, BIG - 1, -BIG)),
+    refused('STACK with words 1, 2, 3 and 5 at the ends', 4, 1, LOW + stacked(-BIG, BIG - 1, -BIG, BIG - 1)),
+    # 4 and 6 of its first two sources come before 7
+    *(refused(f'4 of word {word} of a STACK before 7', 4, 1, LOW + node(STACK, {5: 9, 3: 9, word: 1})) for word in (1, 2)),
+    refused('4 of word 1 before 7 of word 3', 4, 1, LOW + stacked(1, 0, 9, 2)),
+    *(refused(f'6 of a STACK before 7 by number {number}', 6, 3, APART + stacked(0, 1, word, number))
+      for number, word in ((9, 0), (1, 9), (2, 9))),
+    refused('3 of a STACK before 4 and 7', 3, 1, LOW + changed(stacked(1, 1, 1, 9), (4, 1))),
+    # (02) "its shapes and rank 8": no broadcast
+    *(refused(f'STACK of shapes {first} and {second}', 8, 2, large(first, second) + words)
+      for first, second, words in (((2,), (3,), stack(0, 1)), ((2,), (1,), stack(0, 1)), ((1,), (2,), stack(0, 1)),
+                                   ((), (1,), stack(0, 1)),
+                                   ((2, 3), (3,), stack(0, 1)), ((2, 3), (3, 2), stack(0, 1)), ((6,), (2, 3), stack(0, 1)),
+                                   ((2,), (3,), stack(1, 0, 0)), ((2,), (3,), stack(0, 1, 0)),
+                                   ((2,), (3,), stack(0, 0, 1)))),
+    *(refused(f'STACK of {number} of rank 4', 8, 1, param(0, I16, 0, 1, (1, 1, 1, 2)) + stack(*[0] * number))
+      for number in (2, 3)),
+    refused('STACK of 1048578', 8, 1, large((524289,)) + stack(0, 0)),
+    refused('STACK of three of 349526', 8, 1, large((349526,)) + stack(0, 0, 0)),
+    refused('STACK of two of 1048576', 8, 1, large((LARGE,)) + stack(0, 0)),
+    refused('FILL over 1048576', 8, 2, large((17, 1), (61681,)) + apply(FILL, 0, 1)),
+    # 7 before 8 and 9, 8 before 9
+    refused('7 of a STACK before 8', 7, 2, large((2,), (3,)) + stacked(0, 1, 0, 4)),
+    refused('7 of word 3 before 8', 7, 1, param(0, I16, 0, 1, (1, 1, 1, 2)) + stacked(0, 0, 1, 2)),
+    refused('8 of a STACK before 9', 8, 2, param(0, I16, 0, 1, (2,), 1) + param(1, I16, 0, 1, (3,), 2) + stack(0, 1)),
+    refused('6 of a FILL before 8 and 9', 6, 2, param(0, I16, 0, 1, (2,), 1) + param(1, U8, 0, 1, (3,), 2)
+            + apply(FILL, 0, 1)),
+    # 9 "two devices", of the sources that are read
+    *(refused(f'STACK {sources} of two devices', 9, 3, scalar(0, I16, 0, 1, 1) + scalar(1, I16, 0, 1, 2) + const(I16, 1)
+              + stack(*sources))
+      for sources in ((0, 1), (1, 0), (2, 0, 1), (0, 2, 1), (0, 1, 2), (1, 1, 0))),
+    # (02) "in 01's rule 2 .. the limit is 23"; "nodes in turn"
+    refused('operation 24 after a STACK', 2, 2, LOW + stack(0, 0) + node(24)),
+    refused('7 of a STACK before 2 of the next node', 7, 1, LOW + stacked(0, 0, 0, 4) + node(24)),
+    # 12 "all nodes together over 4194304 elements", those of the three too
+    refused('4194305 elements by STACK, KNOWN and FILL', 12, 0,
+            large((524288,), (524288,)) + stack(0, 1) + apply(KNOWN, 2) + apply(FILL, 2, 2) + const(I32, 1)),
+]
+
 # ---------------------------------------------------- refusals of the check
 
 LENGTHS = [
@@ -386,14 +530,13 @@ LENGTHS = [
     accepted('256 nodes', const(I16, 5) * 256, *[(I16, 0, 5, 5)] * 256),
 ]
 OPERATION_UNKNOWN = [
-    # 2 "operation not 0..20"
-    refused('operation 21', 2, 0, node(21)),
+    # 2 "operation not 0..20"; (02) "in 01's rule 2 .. the limit is 23"
+    refused('operation 24', 2, 0, node(24)),
     refused('operation −1', 2, 0, node(-1)),
     refused('operation 2^63 − 1', 2, 0, node(BIG - 1)),
     refused('operation −2^63', 2, 0, node(-BIG)),
     refused('operation 2^32, whose low half is CONST', 2, 0, changed(const(I16, 5), (0, 2 ** 32))),
-    refused('operation 21 in the last of three nodes', 2, 2, const(I16, 5) * 2 + node(21)),
-    refused('operation 21 in the last of 256 nodes', 2, 255, const(I16, 5) * 255 + node(21)),
+    refused('operation 24 in the last of three nodes', 2, 2, const(I16, 5) * 2 + node(24)),
 ]
 SOURCES = [
     # 4 "source negative or not earlier"
@@ -409,8 +552,9 @@ SOURCES = [
     refused('third source not earlier', 4, 2, const(BOOL, 1) + const(I16, 5) + apply(WHERE, 0, 1, 2)),
     refused('third source negative', 4, 2, const(BOOL, 1) + const(I16, 5) + apply(WHERE, 0, 1, -1)),
     refused('condition not earlier', 4, 2, const(BOOL, 1) + const(I16, 5) + apply(WHERE, 2, 1, 1)),
+    # of a STACK of two word 3 is no source
     *(refused(f'{name} as its own source {k}', 4, 1, smallest(op, {k: 1}))
-      for op, (name, _, _, used) in enumerate(OPERATIONS) for k in used if k < 4),
+      for op, (name, _, _, used) in enumerate(OPERATIONS) for k in used if k < 4 and (op, k) != (STACK, 3)),
 ]
 DTYPES = [
     # 5 "word 4 used and not 0..3"
@@ -530,7 +674,7 @@ ROWS = [
 # ------------------------------------------------------------- rules 8 to 12
 
 TWO_SOURCES = ((ADD, I16), (MUL, I16), (MAX, I16), (IDIV, I16), (MOD, I16), (CMPLT, I16), (CMPNE, I16),
-               (AND, BOOL), (OR, BOOL))
+               (AND, BOOL), (OR, BOOL), (FILL, I16))
 SHAPES_DISAGREE = [
     # 8 "shapes disagree"
     refused('RESHAPE to one element more', 8, 1, TWO_BY_THREE + move(RESHAPE, 0, (7,))),
@@ -652,10 +796,10 @@ DIVIDE = param(0, I32, -2147483648, 0, (2,)) + param(1, I32, -1, 0, (2,))
 OTHER_SHAPE = param(0, I32, -2147483648, 0, (2,)) + param(1, I32, -1, 0, (3,))
 OTHER_DEVICE = param(0, I32, -2147483648, 0, (2,)) + param(1, I32, -1, 0, (2,), 2)
 PAIRS = {
-    (2, 3): [node(21, {k: 1 for k in range(1, 17)})],
-    (2, 4): [node(21, {1: -1, 2: -1, 3: -1})],
-    (2, 5): [node(21, {4: 9})],
-    (2, 7): [node(21, {5: 9, 6: -1, 9: -1, 13: -1})],
+    (2, 3): [node(UNKNOWN, {k: 1 for k in range(1, 17)})],
+    (2, 4): [node(UNKNOWN, {1: -1, 2: -1, 3: -1})],
+    (2, 5): [node(UNKNOWN, {4: 9})],
+    (2, 7): [node(UNKNOWN, {5: 9, 6: -1, 9: -1, 13: -1})],
     (3, 4): [changed(cast(0, I16), (2, 1))],
     (3, 5): [changed(const(4, 0), (1, 1))],
     (3, 6): [I16_PAIR + const(U8, 1), changed(apply(MAX, 0, 2), (3, 1))],
@@ -680,6 +824,7 @@ PAIRS = {
     (6, 10): [const(U8, 0) + const(I16, 1), apply(IDIV, 1, 0)],
     (6, 11): [param(0, BOOL, 0, 1, (3,)), reduce_node(0, 0, (1,))],
     (7, 8): [param(0, I16, 0, 1, (2,)), move(PAD, 0, (2,), (1, 1))],
+    (7, 9): [scalar(0, I16, 0, 1, 1) + scalar(1, I16, 0, 1, 2), stacked(0, 1, 0, 4)],
     (7, 11): [param(0, I16, 0, 32767, (2,)), reduce_node(0, 0, (1, 1))],
     (8, 9): [param(0, I16, 0, 1, (2,), 1) + param(1, I16, 0, 1, (3,), 2), apply(ADD, 0, 1)],
     (8, 10): [OTHER_SHAPE, apply(MOD, 0, 1)],
@@ -689,9 +834,8 @@ PAIRS = {
     (10, 11): [DIVIDE, apply(IDIV, 0, 1)],
 }
 # 2 with 6 and 8 to 11: those rules are asked of an operation. 5 is a rule of CONST, PARAM and CAST, none of
-# which has a type rule, two devices or a divisor; an operation with a row or a number of rule 7 has neither
-# two sources nor a divisor.
-NEVER_TOGETHER = {(2, 6), (2, 8), (2, 9), (2, 10), (2, 11), (5, 6), (5, 9), (5, 10), (7, 9), (7, 10)}
+# which has a type rule, two devices or a divisor; an operation with a row or a number of rule 7 has no divisor.
+NEVER_TOGETHER = {(2, 6), (2, 8), (2, 9), (2, 10), (2, 11), (5, 6), (5, 9), (5, 10), (7, 10)}
 # more ways of a pair
 MORE_PAIRS = (
     ((4, 5), [const(I16, 5), cast(-1, -1)]), ((4, 6), [const(U8, 1), apply(AND, 0, 5)]),
@@ -713,13 +857,13 @@ def pair_case(pair, parts):
 
 # One node for each rule of a node, over the nodes 0 to 2 of GROUND.
 GROUND = scalar(0, I16, 0, 32767, 1) + scalar(1, I16, 0, 1, 2) + const(BOOL, 1)
-BROKEN = {2: node(21), 3: changed(const(I16, 5), (1, 1)), 4: load(-1, 1), 5: const(4, 0), 6: apply(MAX, 0, 2),
+BROKEN = {2: node(UNKNOWN), 3: changed(const(I16, 5), (1, 1)), 4: load(-1, 1), 5: const(4, 0), 6: apply(MAX, 0, 2),
           7: load(0, 0), 8: move(RESHAPE, 0, (2,)), 9: apply(MAX, 0, 1), 10: apply(IDIV, 0, 0),
           11: apply(ADD, 0, 0)}
 ORDER = [
     *(pair_case(pair, parts) for pair, parts in (*PAIRS.items(), *MORE_PAIRS)),
     # "Order: 1; nodes in turn": 1 before any node, before 12 and before 14
-    refused('1 before 2', 1, 0, node(21) + [0]),
+    refused('1 before 2', 1, 0, node(UNKNOWN) + [0]),
     refused('1 before 3', 1, 0, BROKEN[3] + [0]),
     refused('1 before 11', 1, 0, const(I16, 32768) + [0]),
     refused('1 before 12', 1, 0, OVER + [0]),
@@ -737,7 +881,7 @@ ORDER = [
 ]
 
 CHECKS = [*BY_OPERATION, *UNUSED, *(bounds_case(*row) for row in BOUNDS), *OTHER_BOUNDS, *SHAPES, *DEVICES,
-          *LENGTHS, *OPERATION_UNKNOWN,
+          *THREE_ACCEPTED, *THREE_REFUSED, *LENGTHS, *OPERATION_UNKNOWN,
           *SOURCES, *DTYPES, *TYPE_RULES, *PARAM_RULES, *ROWS, *SHAPES_DISAGREE, *TWO_DEVICES, *DIVISORS,
           *LEAVES, *TOTALS, *ROOMS, *ORDER]
 
@@ -826,9 +970,10 @@ BYTES_REFUSED = [
     unpack_refused('count 0', '00', 23, 0),
     unpack_refused('count 257', '81 02', 23, 0),
     unpack_refused('count 2^35 − 1', 'FF FF FF FF 7F', 23, 0),
-    unpack_refused('count 256 is one', '80 02', 20, 2, room=4352),
-    # 24 "operation not 0..20", "its byte"
-    unpack_refused('operation 21', '01 15', 24, 1),
+    # 24 "operation not 0..20", "its byte"; (02) "First edition readers keep refusing 23 and 24"
+    *(unpack_refused(f'operation {op} in the first edition', f'01 {op:02X} 00 00 00 04', 24, 1)
+      for op in (21, 22, 23, 24)),
+    unpack_refused('KNOWN of the second node in the first edition', '02 00 04 0A 16 00', 24, 4),
     unpack_refused('operation 127', '01 7F 00 00', 24, 1),
     unpack_refused('operation 149 in two bytes', '01 95 01', 24, 1),
     unpack_refused('operation 128, whose low seven bits are CONST', '01 80 01 04 0A', 24, 1),
@@ -852,7 +997,7 @@ BYTE_ORDER = [
     unpack_refused('14 before 21', '01 80 00', 14, 0, room=16),
     unpack_refused('14 before 22', '01 00 04 0A 00', 14, 0, room=16),
     unpack_refused('14 before 24', '01 15', 14, 0, room=16),
-    unpack_refused('14 of 256 nodes before 20', '80 02', 14, 0, room=4351),
+    unpack_refused('14 of 256 nodes before 20', '80 02', 14, 0),
     unpack_refused('21 before 20 in one number', '01 00 04 80 80 80 80 80', 21, 3),
     unpack_refused('21 before 20 of a later number', '01 00 84 00', 21, 2),
     unpack_refused('21 of an operation before 24', '01 95 00', 21, 1),
@@ -863,6 +1008,92 @@ BYTE_ORDER = [
     unpack_refused('24 before 21 of the next number', '01 15 80 00', 24, 1),
     unpack_refused('24 before 20 of the next number', '01 15 80', 24, 1),
     unpack_refused('24 before 22', '01 15 00 00 00', 24, 1),
+]
+
+# ---------------------------------------------------- second edition files
+# (02) "A second edition file starts with bytes 00 02, then count and nodes as before"
+
+SECOND_UNPACKED = [
+    unpacks('FILL', '00 02 01 15 02 03', 1, [21, 1, -2] + [0] * 14),
+    unpacks('KNOWN', '00 02 01 16 02', 1, [22, 1] + [0] * 15),
+    unpacks('STACK', '00 02 01 17 02 04 06 09', 1, [23, 1, 2, 3, 0, -5] + [0] * 11),
+    unpacks('a STACK of two', '00 02 02 00 04 0A 17 00 00 00 04', 2, FIVE + stack(0, 0)),
+    unpacks('a STACK of three', '00 02 02 00 04 0A 17 00 00 00 06', 2, FIVE + stack(0, 0, 0)),
+    unpacks('a STACK of two with a word 3 not zero', '00 02 01 17 00 00 0A 04', 1, node(STACK, {3: 5, 5: 2})),
+    unpacks('a new operation first', '00 02 02 16 00 00 04 0A', 2, apply(KNOWN, 0) + FIVE),
+    unpacks('a new operation in between', '00 02 03 00 04 0A 16 00 14 00 02', 3, FIVE + apply(KNOWN, 0) + load(0, 1)),
+    unpacks('a new operation last', '00 02 03 00 04 0A 14 00 02 16 02', 3, FIVE + load(0, 1) + apply(KNOWN, 1)),
+    unpacks('each new operation', '00 02 04 00 04 0A 15 00 00 16 02 17 02 00 00 04', 4,
+            FIVE + apply(FILL, 0, 0) + apply(KNOWN, 1) + stack(1, 0)),
+    unpacks('words of five bytes', '00 02 01 17 FF FF FF FF 7F FE FF FF FF 7F FF FF FF FF 0F 80 80 80 80 40', 1,
+            node(STACK, {1: -17179869184, 2: 17179869183, 3: -2147483648, 5: 8589934592})),
+    unpacks('room exact for a second edition file', '00 02 01 16 00', 1, apply(KNOWN, 0), room=17),
+]
+SECOND_REFUSED = [
+    # (02) "a leading 00 not followed by 02 is 23"
+    unpack_refused('00 alone', '00', 23, 0),
+    *(unpack_refused(f'edition {text}', f'00 {text} 01 16 00', 23, 0)
+      for text in ('00', '01', '03', '04', '15', '7F', '80', 'FF')),
+    unpack_refused('edition 2 in two bytes', '00 82 00', 23, 0),
+    unpack_refused('edition 2 in two bytes before a plan', '00 82 00 01 16 00', 23, 0),
+    unpack_refused('an edition and no more', '00 03', 23, 0),
+    unpack_refused('00 00 02', '00 00 02 01 16 00', 23, 0),
+    # 20 and 21 of the count, its first byte being byte 2; 23 "count not 1..256", place 0
+    unpack_refused('00 02 and no more', '00 02', 20, 2),
+    unpack_refused('the end inside the count of a second edition file', '00 02 81', 20, 2),
+    unpack_refused('the end after four bytes of the count', '00 02 81 80 80 80', 20, 2),
+    unpack_refused('the count of a second edition file with a last byte of 0', '00 02 81 00', 21, 2),
+    unpack_refused('the count of a second edition file in six bytes', '00 02 81 80 80 80 80 01', 21, 2),
+    unpack_refused('count 0 of a second edition file', '00 02 00', 23, 0),
+    unpack_refused('00 02 twice', '00 02 00 02 01 16 00', 23, 0),
+    unpack_refused('count 257 of a second edition file', '00 02 81 02', 23, 0),
+    unpack_refused('count 2^35 − 1 of a second edition file', '00 02 FF FF FF FF 7F', 23, 0),
+    # 20, 21 and 22 of later bytes, places from the first byte of the file
+    unpack_refused('the end after the count', '00 02 01', 20, 3),
+    unpack_refused('the end inside a new operation', '00 02 01 96', 20, 3),
+    unpack_refused('the end after KNOWN', '00 02 01 16', 20, 4),
+    unpack_refused('the end before the number of a STACK', '00 02 01 17 00 00 00', 20, 7),
+    unpack_refused('the end inside the number of a STACK', '00 02 01 17 00 00 00 84', 20, 7),
+    unpack_refused('the end after the first of two nodes', '00 02 02 16 00', 20, 5),
+    unpack_refused('KNOWN with a last byte of 0', '00 02 01 96 00 00', 21, 3),
+    unpack_refused('word 3 of a STACK with a last byte of 0', '00 02 01 17 00 00 80 00 04', 21, 6),
+    unpack_refused('the number of a STACK whose fifth byte has its high bit',
+                   '00 02 01 17 00 00 00 84 80 80 80 80', 21, 7),
+    unpack_refused('a byte left over after KNOWN', '00 02 01 16 00 00', 22, 5),
+    unpack_refused('a node left over after STACK', '00 02 01 17 00 00 00 04 00 04 0A', 22, 8),
+    # (02) "for second edition files, rule 24 the limit is 23"
+    *(unpack_refused(f'operation {text} in the second edition', f'00 02 01 {text}', 24, 3)
+      for text in ('18', '19', '7F', '95 01', '96 02', 'FF FF FF FF 7F')),
+    unpack_refused('operation 24 after a new operation', '00 02 02 16 00 18', 24, 5),
+    # (02) "26 for a second edition file with no new operation", place 0
+    unpack_refused('one CONST in a second edition file', '00 02 01 00 04 0A', 26, 0),
+    unpack_refused('a LOAD in a second edition file', '00 02 02 00 04 0A 14 00 02', 26, 0),
+    unpack_refused('words 21, 22 and 23 and no new operation', '00 02 02 00 04 2A 08 2C 2E', 26, 0),
+]
+SECOND_ORDER = [
+    # (02) "26 .. after 22", and so after 14 and all numbers
+    unpack_refused('20 of the count before 14 in the second edition', '00 02', 20, 2, room=0),
+    unpack_refused('21 of the count before 14 in the second edition', '00 02 81 00', 21, 2, room=0),
+    unpack_refused('23 of the edition before 14', '00 03', 23, 0, room=0),
+    unpack_refused('23 of the edition before 21', '00 01 81 00', 23, 0),
+    unpack_refused('23 of the count before 14 in the second edition', '00 02 00', 23, 0, room=0),
+    unpack_refused('23 of the count before 24 in the second edition', '00 02 00 18', 23, 0),
+    unpack_refused('14 before 20 in the second edition', '00 02 01', 14, 0, room=16),
+    unpack_refused('14 before 24 in the second edition', '00 02 01 18', 14, 0, room=16),
+    unpack_refused('14 before 22 and 26', '00 02 01 00 04 0A 00', 14, 0, room=16),
+    unpack_refused('14 before 26', '00 02 01 00 04 0A', 14, 0, room=16),
+    unpack_refused('14 of a second edition file, no room', '00 02 01 16 00', 14, 0, room=0),
+    unpack_refused('14 of a second edition file, one short for two', '00 02 02 00 04 0A 16 00', 14, 0, room=33),
+    unpack_refused('20 before 26', '00 02 01 00 04', 20, 5),
+    unpack_refused('21 before 26', '00 02 01 00 84 00 0A', 21, 4),
+    unpack_refused('24 before 26', '00 02 02 00 04 0A 18', 24, 6),
+    unpack_refused('22 before 26', '00 02 01 00 04 0A 00', 22, 6),
+    unpack_refused('22 before 26, a new operation left over', '00 02 01 00 04 0A 16 00', 22, 6),
+    unpack_refused('21 of an operation before 24 in the second edition', '00 02 01 98 00', 21, 3),
+    unpack_refused('20 of an operation before 24 in the second edition', '00 02 01 98', 20, 3),
+    unpack_refused('24 before 20 in the first edition', '01 16', 24, 1),
+    unpack_refused('24 before 22 in the first edition', '01 16 00 00', 24, 1),
+    unpack_refused('14 before 24 in the first edition', '01 16 00', 14, 0, room=16),
 ]
 
 # ---------------------------------------------------- unpack and check in one
@@ -876,7 +1107,18 @@ ONE_CALL = [
     *(in_one_call(f'{text} of i16', bytes.fromhex('01 00 04 ' + text), answer)
       for text, answer in (('FF FF 03', code(11, 0)), ('FD FF 03', 1), ('FE FF 03', 1), ('80 80 04', code(11, 0)))),
     *(in_one_call(f'in one call: {case.name}', case.source, code(*case.answer[:2]))
-      for case in BYTES_REFUSED),
+      for case in (*BYTES_REFUSED, *SECOND_REFUSED)),
+    in_one_call('count 256 is one', bytes.fromhex('80 02'), code(20, 2)),
+    in_one_call('count 256 of a second edition file is one', bytes.fromhex('00 02 80 02'), code(20, 4)),
+    # (02) "A second edition file": both editions are read
+    in_one_call('256 nodes of the second edition', bytes.fromhex('00 02 80 02' + '00 04 0A' * 255 + '16 00'), 256),
+    in_one_call('KNOWN of a CONST', bytes.fromhex('00 02 02 00 04 0A 16 00'), 2),
+    in_one_call('KNOWN of itself', bytes.fromhex('00 02 01 16 00'), code(4, 0)),
+    in_one_call('a STACK of two with a word 3 not zero', bytes.fromhex('00 02 02 00 04 0A 17 00 00 02 04'), code(7, 1)),
+    in_one_call('a STACK of three with a word 3 not earlier', bytes.fromhex('00 02 02 00 04 0A 17 00 00 02 06'),
+                code(4, 1)),
+    in_one_call('26 before 5', bytes.fromhex('00 02 01 00 09 0A'), code(26, 0)),
+    in_one_call('22 before 26 and 5', bytes.fromhex('00 02 01 00 09 0A 00'), code(22, 6)),
     # "256 nodes take at most 11778": each word −2^34, so node 0 has a negative source
     in_one_call('11778 bytes', GREATEST, code(4, 0)),
     in_one_call('11778 bytes and one', GREATEST + b'\0', code(22, 11778)),
@@ -933,7 +1175,8 @@ def pack_case(example):
 
 
 PACKS = [pack_case(example) for example in pack_examples.EXAMPLES]
-CASES = [*UNPACKED, *BYTES_REFUSED, *BYTE_ORDER, *CHECKS, *ONE_CALL, *packed_too(CHECKS), *RUNS, *LOOKUPS, *PACKS]
+CASES = [*UNPACKED, *BYTES_REFUSED, *BYTE_ORDER, *SECOND_UNPACKED, *SECOND_REFUSED, *SECOND_ORDER, *CHECKS, *ONE_CALL,
+         *packed_too(CHECKS), *RUNS, *LOOKUPS, *PACKS]
 
 # ------------------------------------------------------------------ the files
 
@@ -993,7 +1236,7 @@ def problems():
             words = 'the same words' if other.buffer == case.buffer else 'other words'
             yield f'{case.call}, {case.name}: the model answers {other.answer}, not {case.answer}; {words}'
     numbers = {case.answer[0] for case in CASES if case.call != 'unpack_check'}
-    missing = {*range(18), *range(20, 26)} - numbers
+    missing = {*range(18), *range(20, 27)} - numbers
     if missing:
         yield f'no case of {sorted(missing)}'
     every = {(a, b) for a in range(2, 12) for b in range(a + 1, 12)}

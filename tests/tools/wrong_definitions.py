@@ -24,15 +24,17 @@ REFUTED = 'crates/guarantees/proofs/Refuted.antt'
 # file below crates/, the text in it and what stands there instead; the statement that is false then, and the proof of that.
 Wrong = namedtuple('Wrong', 'name file right wrong statement proof')
 
-HEAD = '''use Prim.Native.Nat.{ℕ, zero, suc, _+_, _/_, _<_, _≤_}
-use mathlib.Core.Path.{_≡_, refl, ap}
+HEAD = '''use Prim.Native.Nat.{ℕ, zero, suc, _+_, _*_, _/_, _<_, _≤_}
+use mathlib.Core.Path.{_≡_, refl, ap, sym, _∙_}
 use mathlib.Core.Logic.{_⊎_, inl, inr, ⊎-elim}
-use mathlib.Core.Bool.{true, false}
+use mathlib.Core.Bool.{true, false, true≢false}
 use mathlib.Core.List.{List, [], _∷_, _++_}
 use native.Mathlib.Omega.{arith}
 use lib.IntN.{ℤ, pos, negsuc, natAbs}
+use lib.Signed.{_≤ℤ_, _<ℤ_}
 use lib.ListN.{getD, length, replicate}
 use Rattle.plan.specs.declared.Answer.{Answer}
+use Rattle.plan.specs.declared.ElementNumber.{ElementNumber}
 use Rattle.plan.specs.Types.{between}
 use Rattle.plan.specs.Words.{node, element}
 use Rattle.plan.specs.Answers.{Outcome, accepted, refused}
@@ -42,16 +44,16 @@ use Rattle.verifier.specs.Meets.{ruleHolds, NodeMeets, MeetsAt, NodesMeet}
 use Rattle.cells.specs.Cells.{Cell, known, gap}
 use Rattle.runner.specs.Run.{fieldsOf, valueOf, flagOf}
 use Rattle.lookup.specs.declared.Reply.{Reply}
-use Rattle.guarantees.specs.Questions.{u8, i16, i32, zeros, param, constant, movement, binary, reduce, cast}
-use Rattle.guarantees.specs.Demand3.{Lent, resultAt, Proper}
-use Rattle.guarantees.specs.Rules.{RulesSay}
+use Rattle.guarantees.specs.Questions.{u8, i16, i32, zeros, param, constant, movement, binary, reduce, stack, cast}
+use Rattle.guarantees.specs.Demand3.{Lent, word, asCount, elements, resultAt, Proper}
+use Rattle.guarantees.specs.Rules.{ReadsSource, RulesSay}
 use Rattle.guarantees.specs.Acceptance.{Nodes, Acceptance, bad-node}
 use Rattle.guarantees.specs.Values.{EveryValue, Moved, from, new}
 use Rattle.guarantees.specs.Runs.{RunsExactly}
 use Rattle.guarantees.specs.Ranges.{RangesSay}
 use Rattle.guarantees.specs.Records.{RecordsSay}
 use Rattle.guarantees.specs.Checks.{ChecksExactly}
-use Rattle.guarantees.specs.Unpacks.{UnpacksExactly}
+use Rattle.guarantees.specs.Unpacks.{Opens, first-edition, second-edition, New, Begins, first, next-node, UnpacksExactly}
 use Rattle.guarantees.specs.Packs.{RoundTrips}
 use Rattle.guarantees.specs.Refusals.{RefusalsKeep}
 use Rattle.guarantees.specs.Lookups.{LeadsTo, LookupAgrees, here}
@@ -130,10 +132,10 @@ refuted h =
     moved (new z c e) = absurd (omega (arith, z))
 '''),
     Wrong('rules 6 and 7 swapped', 'rules/specs/Rules.antt',
-          '    ∷ rule 6 (typesAgree (x .op) (a .dtype) (b .dtype) (c .dtype))\n'
+          '    ∷ rule 6 (typesAgree x (a .dtype) (b .dtype) (c .dtype))\n'
           '    ∷ rule 7 (rowsRight x params (length (a .extents)))\n',
           '    ∷ rule 7 (rowsRight x params (length (a .extents)))\n'
-          '    ∷ rule 6 (typesAgree (x .op) (a .dtype) (b .dtype) (c .dtype))\n', 'Acceptance', '''
+          '    ∷ rule 6 (typesAgree x (a .dtype) (b .dtype) (c .dtype))\n', 'Acceptance', '''
 refuted h =
     let nodes : Nodes twoRules 2 = record { words = refl; some = omega arith; few = omega arith } in
     let six = h .refused-when twoRules (record { number = 6; place = 1 }) .1 (bad-node {m = 2} {n = 1} {k = 6} {ds = before} nodes (omega arith) first (omega arith) (omega arith) smaller refl) in
@@ -147,7 +149,7 @@ refuted h =
     first = record { as-many = refl; each = each }
 '''),
     Wrong('rule 6 always holds', 'rules/specs/Rules.antt',
-          'typesAgree op a b c = byOperation op (typeRules a b c) false', 'typesAgree op a b c = true', 'RulesSay', '''
+          'typesAgree x a b c = byOperation (x .op) (typeRules x a b c) false', 'typesAgree x a b c = true', 'RulesSay', '''
 refuted h = (h .rule-6 twoRules 1 before 19 refl (omega arith) .0 refl) .reduces refl refl
 '''),
     Wrong('rule 3 always holds', 'plan/specs/Words.antt',
@@ -210,7 +212,7 @@ refuted h =
     never (ap natAbs (own .named (inl refl))) (λ e. absurd (omega (arith, e)))
 '''),
     Wrong('bytes left over accepted', 'codec/specs/Plans.antt',
-          'need (leb (length s) (u .next)) 22 (u .next) (accepted u)', 'accepted u', 'UnpacksExactly', '''
+          'need (leb (length s) (u .next)) 22 (u .next)\n', 'need true 22 (u .next)\n', 'UnpacksExactly', '''
 refuted h =
     let read = h .accepted-when (1 ∷ 0 ∷ 4 ∷ 10 ∷ 0 ∷ []) 17 (record { words = constant i16 (pos 5); next = 4 }) .0 refl in
     never (read .end) (λ e. absurd (omega (arith, e)))
@@ -253,6 +255,83 @@ refuted h =
     let room : 4 ≤ 4 = omega arith in
     never (ap (λ (a : Answer). a .number) (h .written-back four are (zeros 17) (replicate 4 0) refl room .0)) (λ e. absurd (omega (arith, e)))
 '''),
+    Wrong('FILL takes the second where the first is known', 'cells/specs/Cells.antt',
+          'fillCell (known z) d = known z', 'fillCell (known z) d = d', 'EveryValue', '''
+refuted h =
+    let over = h fills pairs (lends 1) 2 (element 0) refl refl (omega arith) (omega arith) .overlaid refl in
+    apart (over .if-known (pos 1) (ap (λ (m : ElementNumber). resultAt fills pairs (lends 1) 0 m) (only (over .first) (over .under-first .inside)))) (λ e. absurd (omega (arith, e)))
+'''),
+    Wrong('FILL leaves a gap', 'cells/specs/Cells.antt', 'fillCell gap d = d', 'fillCell gap d = gap', 'EveryValue', '''
+refuted h =
+    let over = h fills pairs (lends 0) 2 (element 0) refl refl (omega arith) (omega arith) .overlaid refl in
+    let first = ap (λ (m : ElementNumber). resultAt fills pairs (lends 0) 0 m) (only (over .first) (over .under-first .inside)) in
+    let second = ap (λ (m : ElementNumber). resultAt fills pairs (lends 0) 1 m) (only (over .second) (over .under-second .inside)) in
+    apart (over .if-gap first ∙ second) (λ e. absurd (omega (arith, e)))
+'''),
+    Wrong('KNOWN of a gap is a gap', 'cells/specs/Cells.antt', 'knownCell gap = known (pos 0)', 'knownCell gap = gap', 'EveryValue', '''
+refuted h =
+    let told = h (param 0 i16 (pos 0) (pos 9) [] ++ pos 22 ∷ zeros 16) (derived i16 1 (pos 0) (pos 9) [] ∷ derived 0 1 (pos 0) (pos 1) [] ∷ []) (record { values = pos 5 ∷ []; flags = 0 ∷ []; valueBuffer = []; flagBuffer = [] }) 1 (element 0) refl refl (omega arith) (omega arith) .tells refl in
+    apart (told .if-gap refl) (λ e. absurd (omega (arith, e)))
+'''),
+    Wrong("STACK's first two sources swapped", 'cells/specs/Nodes.antt',
+          'cellAt (cond (ltb (e .0) n) (s .a) (cond (ltb (e .0) (n + n)) (s .b) (s .c)))',
+          'cellAt (cond (ltb (e .0) n) (s .b) (cond (ltb (e .0) (n + n)) (s .a) (s .c)))', 'EveryValue', '''
+refuted h =
+    let first = h stacks joined (lends 1) 2 (element 0) refl refl (omega arith) (omega arith) .stacked refl in
+    at (first .turn) (first .of) (first .aligned .0) (first .inside) (first .same)
+  where
+    at : (turn : ℕ) (m : ElementNumber) → 0 ≡ turn → m .0 < elements joined (asCount (word stacks 2 (1 + turn))) → known (pos 2) ≡ resultAt stacks joined (lends 1) (asCount (word stacks 2 (1 + turn))) m → ⊥
+    at zero m e l c = apart (c ∙ ap (λ (m : ElementNumber). resultAt stacks joined (lends 1) 0 m) (only m l)) (λ z. absurd (omega (arith, z)))
+    at (suc turn) m e l c = absurd (omega (arith, e))
+'''),
+    Wrong('a STACK of two reads word 3', 'plan/specs/Words.antt',
+          'reads x k = uses (x .op) k && inNumber x k', 'reads x k = uses (x .op) k', 'RulesSay', '''
+refuted h = true≢false (sym (h .rule-4 two 1 [] 23 refl (omega arith) (omega arith) .1 sources))
+  where
+    sources : (k : ℕ) → 1 ≤ k → k ≤ 3 → ReadsSource two 1 23 k → (pos 0 ≤ℤ word two 1 k) × (word two 1 k <ℤ pos 1)
+    sources zero a b r = absurd (omega arith)
+    sources (suc zero) a b r = (record { le = tt }, record { lt = tt })
+    sources (suc (suc zero)) a b r = (record { le = tt }, record { lt = tt })
+    sources (suc (suc (suc zero))) a b r = absurd (never (ap natAbs (r .1 refl refl)) (λ e. absurd (omega (arith, e))))
+    sources (suc (suc (suc (suc k)))) a b r = absurd (omega arith)
+'''),
+    Wrong("KNOWN's bounds are [1,1]", 'bounds/specs/Rules.antt',
+          '(KNOWN ∷ []) ⇒ between (pos 0) (pos 1)', '(KNOWN ∷ []) ⇒ between (pos 1) (pos 1)', 'RecordsSay', '''
+refuted h =
+    let told = h .bounds (constant i16 (pos 2) ++ pos 22 ∷ zeros 16) 1 (derived i16 0 (pos 2) (pos 2) [] ∷ []) 22 refl (omega arith) (omega arith) in
+    never (ap natAbs (told .tells refl .0)) (λ e. absurd (omega (arith, e)))
+'''),
+    Wrong('a second edition file of old operations accepted', 'codec/specs/Plans.antt',
+          'need (eqb edition (editionOf (u .words))) 26 0', 'need true 26 0', 'UnpacksExactly', '''
+refuted h =
+    let read = h .accepted-when old 17 (record { words = constant i16 (pos 5); next = 6 }) .0 refl in
+    none (read .count) (read .long) (read .some-new (second (begun (read .all) .1)))
+  where
+    begun : {edition room count n p : ℕ} {t : List ℤ} → Begins old edition room count t n p → (place : ℕ) × Opens old edition place
+    begun (first c) = (c .place, c .opens)
+    begun (next-node b l w) = begun b
+
+    second : {edition place : ℕ} → Opens old edition place → edition ≡ 2
+    second (first-edition f) = absurd (f (omega arith) refl)
+    second (second-edition l a b) = refl
+
+    none : (count : ℕ) → 17 ≡ 17 * count → (n : ℕ) × (n < count) × New (constant i16 (pos 5)) n → ⊥
+    none count one (zero, l, w) = w .0 .le
+    none count one (suc n, l, w) = absurd (omega (arith, one, l))
+'''),
+    Wrong('26 for a first edition file', 'plan/specs/Operations.antt',
+          'inFile edition op = isOperation op && (eqb edition 2 || not (isNew op))', 'inFile edition op = isOperation op', 'UnpacksExactly', '''
+refuted h = other (h .first-never-26 (2 ∷ 0 ∷ 4 ∷ 10 ∷ 22 ∷ 0 ∷ []) 34 (record { number = 26; place = 0 }) refl refl)
+  where
+    other : Opens (2 ∷ 0 ∷ 4 ∷ 10 ∷ 22 ∷ 0 ∷ []) 2 2 → ⊥
+    other (second-edition l a b) = absurd (omega (arith, a))
+'''),
+    Wrong('the writer knows one edition', 'packing/specs/Packing.antt',
+          'openingBytes t = headerOf (editionOf t) ++ bytesOf (nodeCount t)', 'openingBytes t = bytesOf (nodeCount t)', 'RoundTrips', '''
+refuted h =
+    let words : 34 ≤ 34 = omega arith in
+    never (ap (λ (a : Answer). a .number) (h .read-back (constant i16 (pos 5) ++ pos 22 ∷ zeros 16) (replicate 9 0) (zeros 34) refl words .2)) (λ e. absurd (omega (arith, e)))
+'''),
 )
 
 # What a proof uses beside the head.
@@ -288,6 +367,38 @@ casts = param 0 i16 (pos 0) (pos 9) (2 ∷ []) ++ cast 0 i32
 
 abbrev ends : List Derived
 ends = derived i16 1 (pos 0) (pos 9) (2 ∷ []) ∷ derived i32 1 (pos 0) (pos 9) (2 ∷ []) ∷ []
+
+'''
+# Two numbers of one cell each, and the only element that such a node has.
+PAIRS = '''abbrev lends : ℕ → Lent
+lends flag = record { values = pos 1 ∷ pos 2 ∷ []; flags = flag ∷ 1 ∷ []; valueBuffer = []; flagBuffer = [] }
+
+abbrev inputs : List ℤ
+inputs = param 0 i16 (pos 0) (pos 9) [] ++ param 1 i16 (pos 0) (pos 9) []
+
+abbrev fills : List ℤ
+fills = inputs ++ binary 21 0 1
+
+abbrev stacks : List ℤ
+stacks = inputs ++ stack 0 1 0 2
+
+abbrev pairs : List Derived
+pairs = derived i16 1 (pos 0) (pos 9) [] ∷ derived i16 1 (pos 0) (pos 9) [] ∷ derived i16 1 (pos 0) (pos 9) [] ∷ []
+
+abbrev joined : List Derived
+joined = derived i16 1 (pos 0) (pos 9) [] ∷ derived i16 1 (pos 0) (pos 9) [] ∷ derived i16 1 (pos 0) (pos 9) (2 ∷ []) ∷ []
+
+only : (m : ElementNumber) → m .0 < 1 → m ≡ element 0
+only m l = let none : m .0 ≡ 0 = omega arith in ap element none
+
+'''
+NEEDS.update(dict.fromkeys(('FILL takes the second where the first is known', 'FILL leaves a gap', "STACK's first two sources swapped"), PAIRS))
+NEEDS['a STACK of two reads word 3'] = '''abbrev two : List ℤ
+two = constant i16 (pos 5) ++ stack 0 0 7 2
+
+'''
+NEEDS['a second edition file of old operations accepted'] = '''abbrev old : List ℕ
+old = 0 ∷ 2 ∷ 1 ∷ 0 ∷ 4 ∷ 10 ∷ []
 
 '''
 NEEDS.update(dict.fromkeys(('a lookup follows CAST', 'node and element swapped in the reply', "a record's words swapped"), CASTS))

@@ -33,6 +33,11 @@ pub mod Table31
 pub mod Table32
 pub mod Table33
 pub mod Table34
+pub mod Table35
+pub mod Table36
+pub mod Table37
+pub mod Table38
+pub mod Table39
 pub mod Packs01
 pub mod Packs02
 pub mod Packs03
@@ -45,3 +50,4 @@ pub mod Packs09
 pub mod Packs10
 pub mod Packs11
 pub mod Packs12
+pub mod Packs13

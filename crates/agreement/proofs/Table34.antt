@@ -6,8 +6,70 @@ use Rattle.agreement.specs.Cases.{words, nodes, times, freshFrom, flagsF
 
 abbrev pub table34 : List Case
 table34 =
+    -- lookup by hand
+    toLookup (nodes ((2 ∷ 0 ∷ 0 ∷ 0 ∷ 6 ∷ 0 ∷ 2 ∷ 0 ∷ 2 ∷ 2 ∷ 2 ∷ 2 ∷ 2 ∷ []) ∷ (12 ∷ 0 ∷ 0 ∷ 0 ∷ 0 ∷ 0 ∷ 0 ∷ 0 ∷ 0 ∷ 2 ∷ 2 ∷ 6 ∷ 2 ∷ 0 ∷ 0 ∷ 2 ∷ []) ∷ [])) 1 0 gives finds (answer 0 0 0) 2 0 0
+    -- lookup by hand
+    ∷ toLookup (nodes ((2 ∷ 0 ∷ 0 ∷ 0 ∷ 6 ∷ 0 ∷ 2 ∷ 0 ∷ 2 ∷ 2 ∷ 2 ∷ 2 ∷ 2 ∷ []) ∷ (12 ∷ 0 ∷ 0 ∷ 0 ∷ 0 ∷ 0 ∷ 0 ∷ 0 ∷ 0 ∷ 2 ∷ 2 ∷ 6 ∷ 2 ∷ 0 ∷ 0 ∷ 2 ∷ []) ∷ [])) 1 2 gives finds (answer 0 0 0) 2 0 0
+    -- lookup by hand
+    ∷ toLookup (nodes ((2 ∷ 0 ∷ 0 ∷ 0 ∷ 6 ∷ 0 ∷ 2 ∷ 0 ∷ 2 ∷ 4 ∷ 4 ∷ 4 ∷ 4 ∷ []) ∷ (6 ∷ 0 ∷ 0 ∷ 0 ∷ 0 ∷ 0 ∷ 0 ∷ 0 ∷ 0 ∷ 0 ∷ 0 ∷ 0 ∷ 2 ∷ []) ∷ [])) 1 0 gives finds (answer 0 0 0) 1 0 1
+    -- lookup by hand
+    ∷ toLookup (nodes ((2 ∷ 0 ∷ 0 ∷ 0 ∷ 6 ∷ 0 ∷ 2 ∷ 0 ∷ 2 ∷ 4 ∷ 4 ∷ 4 ∷ 4 ∷ []) ∷ (14 ∷ 0 ∷ 0 ∷ 0 ∷ 0 ∷ 0 ∷ 0 ∷ 0 ∷ 0 ∷ 4 ∷ 4 ∷ 4 ∷ 2 ∷ 0 ∷ 0 ∷ 0 ∷ 2 ∷ []) ∷ [])) 1 0 gives finds (answer 0 0 0) 1 0 1
+    -- lookup by hand
+    ∷ toLookup (nodes ((2 ∷ 0 ∷ 0 ∷ 0 ∷ 6 ∷ 0 ∷ 2 ∷ 0 ∷ 2 ∷ 4 ∷ 4 ∷ 4 ∷ 2 ∷ []) ∷ (10 ∷ 0 ∷ 0 ∷ 0 ∷ 0 ∷ 0 ∷ 0 ∷ 0 ∷ 0 ∷ 4 ∷ 4 ∷ 4 ∷ 4 ∷ []) ∷ [])) 1 15 gives finds (answer 0 0 0) 1 0 7
+    -- lookup by hand
+    ∷ toLookup (nodes ((2 ∷ 0 ∷ 0 ∷ 0 ∷ 6 ∷ 0 ∷ 2 ∷ 0 ∷ 2 ∷ 2 ∷ 2 ∷ 2 ∷ 2 ∷ []) ∷ (12 ∷ 0 ∷ 0 ∷ 0 ∷ 0 ∷ 0 ∷ 0 ∷ 0 ∷ 0 ∷ 2 ∷ 2 ∷ 2 ∷ 6 ∷ 0 ∷ 0 ∷ 0 ∷ 2 ∷ []) ∷ [])) 1 0 gives finds (answer 0 0 0) 2 0 0
+    -- lookup by hand
+    ∷ toLookup (nodes ((2 ∷ 0 ∷ 0 ∷ 0 ∷ 6 ∷ 0 ∷ 2 ∷ 0 ∷ 2 ∷ 2 ∷ 2 ∷ 2 ∷ 2 ∷ []) ∷ (12 ∷ 0 ∷ 0 ∷ 0 ∷ 0 ∷ 0 ∷ 0 ∷ 0 ∷ 0 ∷ 2 ∷ 2 ∷ 2 ∷ 6 ∷ 0 ∷ 0 ∷ 0 ∷ 2 ∷ []) ∷ [])) 1 2 gives finds (answer 0 0 0) 2 0 0
+    -- lookup by hand
+    ∷ toLookup (nodes ((2 ∷ 0 ∷ 0 ∷ 0 ∷ 6 ∷ 0 ∷ 2 ∷ 0 ∷ 2 ∷ 4 ∷ 6 ∷ 4 ∷ 8 ∷ []) ∷ (4 ∷ 0 ∷ 0 ∷ 0 ∷ 0 ∷ 0 ∷ 0 ∷ 0 ∷ 0 ∷ 2 ∷ 4 ∷ 6 ∷ []) ∷ [])) 1 5 gives finds (answer 0 0 0) 1 0 26
+    -- lookup by hand
+    ∷ toLookup (nodes ((2 ∷ 0 ∷ 0 ∷ 0 ∷ 6 ∷ 0 ∷ 2 ∷ 0 ∷ 2 ∷ 4 ∷ 6 ∷ 4 ∷ 8 ∷ []) ∷ (4 ∷ 0 ∷ 0 ∷ 0 ∷ 0 ∷ 0 ∷ 0 ∷ 0 ∷ 0 ∷ 2 ∷ 4 ∷ 6 ∷ []) ∷ [])) 1 14 gives finds (answer 0 0 0) 1 0 7
+    -- lookup by hand
+    ∷ toLookup (nodes ((2 ∷ 0 ∷ 0 ∷ 0 ∷ 6 ∷ 0 ∷ 2 ∷ 0 ∷ 2 ∷ 4 ∷ 6 ∷ 4 ∷ 8 ∷ []) ∷ (4 ∷ 0 ∷ 0 ∷ 0 ∷ 0 ∷ 0 ∷ 0 ∷ 0 ∷ 0 ∷ 6 ∷ 0 ∷ 2 ∷ 4 ∷ []) ∷ [])) 1 5 gives finds (answer 0 0 0) 1 0 20
+    -- lookup by hand
+    ∷ toLookup (nodes ((2 ∷ 0 ∷ 0 ∷ 0 ∷ 6 ∷ 0 ∷ 2 ∷ 0 ∷ 2 ∷ 4 ∷ 6 ∷ 4 ∷ 8 ∷ []) ∷ (4 ∷ 0 ∷ 0 ∷ 0 ∷ 0 ∷ 0 ∷ 0 ∷ 0 ∷ 0 ∷ 6 ∷ 0 ∷ 2 ∷ 4 ∷ []) ∷ [])) 1 14 gives finds (answer 0 0 0) 1 0 9
+    -- lookup by hand
+    ∷ toLookup (nodes ((2 ∷ 0 ∷ 0 ∷ 0 ∷ 6 ∷ 0 ∷ 2 ∷ 0 ∷ 2 ∷ 4 ∷ 6 ∷ 4 ∷ 8 ∷ []) ∷ (4 ∷ 0 ∷ 0 ∷ 0 ∷ 0 ∷ 0 ∷ 0 ∷ 0 ∷ 0 ∷ 2 ∷ 6 ∷ 0 ∷ 4 ∷ []) ∷ [])) 1 5 gives finds (answer 0 0 0) 1 0 5
+    -- lookup by hand
+    ∷ toLookup (nodes ((2 ∷ 0 ∷ 0 ∷ 0 ∷ 6 ∷ 0 ∷ 2 ∷ 0 ∷ 2 ∷ 4 ∷ 6 ∷ 4 ∷ 8 ∷ []) ∷ (4 ∷ 0 ∷ 0 ∷ 0 ∷ 0 ∷ 0 ∷ 0 ∷ 0 ∷ 0 ∷ 2 ∷ 6 ∷ 0 ∷ 4 ∷ []) ∷ [])) 1 14 gives finds (answer 0 0 0) 1 0 27
+    -- lookup by hand
+    ∷ toLookup (nodes ((2 ∷ 0 ∷ 0 ∷ 0 ∷ 6 ∷ 0 ∷ 2 ∷ 0 ∷ 2 ∷ 4 ∷ 6 ∷ 4 ∷ 8 ∷ []) ∷ (4 ∷ 0 ∷ 0 ∷ 0 ∷ 0 ∷ 0 ∷ 0 ∷ 0 ∷ 0 ∷ 4 ∷ 0 ∷ 6 ∷ 2 ∷ []) ∷ [])) 1 5 gives finds (answer 0 0 0) 1 0 17
+    -- lookup by hand
+    ∷ toLookup (nodes ((2 ∷ 0 ∷ 0 ∷ 0 ∷ 6 ∷ 0 ∷ 2 ∷ 0 ∷ 2 ∷ 4 ∷ 6 ∷ 4 ∷ 8 ∷ []) ∷ (4 ∷ 0 ∷ 0 ∷ 0 ∷ 0 ∷ 0 ∷ 0 ∷ 0 ∷ 0 ∷ 4 ∷ 0 ∷ 6 ∷ 2 ∷ []) ∷ [])) 1 14 gives finds (answer 0 0 0) 1 0 40
+    -- lookup by hand
+    ∷ toLookup (nodes ((2 ∷ 0 ∷ 0 ∷ 0 ∷ 6 ∷ 0 ∷ 2 ∷ 0 ∷ 2 ∷ 4 ∷ 4 ∷ []) ∷ (12 ∷ 0 ∷ 0 ∷ 0 ∷ 0 ∷ 0 ∷ 0 ∷ 0 ∷ 0 ∷ 8 ∷ 10 ∷ 0 ∷ 0 ∷ 2 ∷ 2 ∷ []) ∷ [])) 1 1 gives finds (answer 0 0 0) 2 0 0
+    -- lookup by hand
+    ∷ toLookup (nodes ((2 ∷ 0 ∷ 0 ∷ 0 ∷ 6 ∷ 0 ∷ 2 ∷ 0 ∷ 2 ∷ 4 ∷ 4 ∷ []) ∷ (12 ∷ 0 ∷ 0 ∷ 0 ∷ 0 ∷ 0 ∷ 0 ∷ 0 ∷ 0 ∷ 8 ∷ 10 ∷ 0 ∷ 0 ∷ 2 ∷ 2 ∷ []) ∷ [])) 1 5 gives finds (answer 0 0 0) 2 0 0
+    -- lookup by hand
+    ∷ toLookup (nodes ((2 ∷ 0 ∷ 0 ∷ 0 ∷ 6 ∷ 0 ∷ 2 ∷ 0 ∷ 2 ∷ 4 ∷ 4 ∷ []) ∷ (12 ∷ 0 ∷ 0 ∷ 0 ∷ 0 ∷ 0 ∷ 0 ∷ 0 ∷ 0 ∷ 8 ∷ 10 ∷ 0 ∷ 0 ∷ 2 ∷ 2 ∷ []) ∷ [])) 1 6 gives finds (answer 0 0 0) 1 0 0
+    -- lookup by hand
+    ∷ toLookup (nodes ((2 ∷ 0 ∷ 0 ∷ 0 ∷ 6 ∷ 0 ∷ 2 ∷ 0 ∷ 2 ∷ 4 ∷ 4 ∷ []) ∷ (12 ∷ 0 ∷ 0 ∷ 0 ∷ 0 ∷ 0 ∷ 0 ∷ 0 ∷ 0 ∷ 8 ∷ 10 ∷ 0 ∷ 0 ∷ 2 ∷ 2 ∷ []) ∷ [])) 1 8 gives finds (answer 0 0 0) 2 0 0
+    -- lookup by hand
+    ∷ toLookup (nodes ((2 ∷ 0 ∷ 0 ∷ 0 ∷ 6 ∷ 0 ∷ 2 ∷ 0 ∷ 2 ∷ 4 ∷ 4 ∷ []) ∷ (12 ∷ 0 ∷ 0 ∷ 0 ∷ 0 ∷ 0 ∷ 0 ∷ 0 ∷ 0 ∷ 8 ∷ 10 ∷ 0 ∷ 0 ∷ 2 ∷ 2 ∷ []) ∷ [])) 1 12 gives finds (answer 0 0 0) 1 0 3
+    -- lookup by hand
+    ∷ toLookup (nodes ((2 ∷ 0 ∷ 0 ∷ 0 ∷ 6 ∷ 0 ∷ 2 ∷ 0 ∷ 2 ∷ 4 ∷ 4 ∷ []) ∷ (12 ∷ 0 ∷ 0 ∷ 0 ∷ 0 ∷ 0 ∷ 0 ∷ 0 ∷ 0 ∷ 8 ∷ 10 ∷ 0 ∷ 0 ∷ 2 ∷ 2 ∷ []) ∷ [])) 1 16 gives finds (answer 0 0 0) 2 0 0
+    -- lookup by hand
+    ∷ toLookup (nodes ((2 ∷ 0 ∷ 0 ∷ 0 ∷ 6 ∷ 0 ∷ 2 ∷ 0 ∷ 2 ∷ 4 ∷ 6 ∷ []) ∷ (6 ∷ 0 ∷ 0 ∷ 0 ∷ 0 ∷ 0 ∷ 0 ∷ 0 ∷ 0 ∷ 2 ∷ []) ∷ (16 ∷ 2 ∷ 0 ∷ 0 ∷ 6 ∷ []) ∷ [])) 0 5 gives finds (answer 0 0 0) 1 0 5
+    -- lookup by hand
+    ∷ toLookup (nodes ((2 ∷ 0 ∷ 0 ∷ 0 ∷ 6 ∷ 0 ∷ 2 ∷ 0 ∷ 2 ∷ 4 ∷ 6 ∷ []) ∷ (6 ∷ 0 ∷ 0 ∷ 0 ∷ 0 ∷ 0 ∷ 0 ∷ 0 ∷ 0 ∷ 2 ∷ []) ∷ (16 ∷ 2 ∷ 0 ∷ 0 ∷ 6 ∷ []) ∷ [])) 0 6 gives finds (answer 17 0 0) 0 0 0
+    -- lookup by hand
+    ∷ toLookup (nodes ((2 ∷ 0 ∷ 0 ∷ 0 ∷ 6 ∷ 0 ∷ 2 ∷ 0 ∷ 2 ∷ 4 ∷ 6 ∷ []) ∷ (6 ∷ 0 ∷ 0 ∷ 0 ∷ 0 ∷ 0 ∷ 0 ∷ 0 ∷ 0 ∷ 2 ∷ []) ∷ (16 ∷ 2 ∷ 0 ∷ 0 ∷ 6 ∷ []) ∷ [])) 1 5 gives finds (answer 0 0 0) 1 0 2
+    -- lookup by hand
+    ∷ toLookup (nodes ((2 ∷ 0 ∷ 0 ∷ 0 ∷ 6 ∷ 0 ∷ 2 ∷ 0 ∷ 2 ∷ 4 ∷ 6 ∷ []) ∷ (6 ∷ 0 ∷ 0 ∷ 0 ∷ 0 ∷ 0 ∷ 0 ∷ 0 ∷ 0 ∷ 2 ∷ []) ∷ (16 ∷ 2 ∷ 0 ∷ 0 ∷ 6 ∷ []) ∷ [])) 1 6 gives finds (answer 17 0 0) 0 0 0
+    -- lookup by hand
+    ∷ toLookup (nodes ((2 ∷ 0 ∷ 0 ∷ 0 ∷ 6 ∷ 0 ∷ 2 ∷ 0 ∷ 2 ∷ 4 ∷ 6 ∷ []) ∷ (6 ∷ 0 ∷ 0 ∷ 0 ∷ 0 ∷ 0 ∷ 0 ∷ 0 ∷ 0 ∷ 2 ∷ []) ∷ (16 ∷ 2 ∷ 0 ∷ 0 ∷ 6 ∷ []) ∷ [])) 2 5 gives finds (answer 0 0 0) 1 2 5
+    -- lookup by hand
+    ∷ toLookup (nodes ((2 ∷ 0 ∷ 0 ∷ 0 ∷ 6 ∷ 0 ∷ 2 ∷ 0 ∷ 2 ∷ 4 ∷ 6 ∷ []) ∷ (6 ∷ 0 ∷ 0 ∷ 0 ∷ 0 ∷ 0 ∷ 0 ∷ 0 ∷ 0 ∷ 2 ∷ []) ∷ (16 ∷ 2 ∷ 0 ∷ 0 ∷ 6 ∷ []) ∷ [])) 2 6 gives finds (answer 17 0 0) 0 0 0
+    -- lookup by hand
+    ∷ toLookup (nodes ((2 ∷ 0 ∷ 0 ∷ 0 ∷ 6 ∷ 0 ∷ 2 ∷ 0 ∷ 2 ∷ 4 ∷ 6 ∷ []) ∷ (6 ∷ 0 ∷ 0 ∷ 0 ∷ 0 ∷ 0 ∷ 0 ∷ 0 ∷ 0 ∷ 2 ∷ []) ∷ (16 ∷ 2 ∷ 0 ∷ 0 ∷ 6 ∷ []) ∷ [])) 3 0 gives finds (answer 17 0 0) 0 0 0
+    -- lookup by hand
+    ∷ toLookup (nodes ((2 ∷ 0 ∷ 0 ∷ 0 ∷ 6 ∷ 0 ∷ 2 ∷ 0 ∷ 2 ∷ 4 ∷ 6 ∷ []) ∷ (6 ∷ 0 ∷ 0 ∷ 0 ∷ 0 ∷ 0 ∷ 0 ∷ 0 ∷ 0 ∷ 2 ∷ []) ∷ (16 ∷ 2 ∷ 0 ∷ 0 ∷ 6 ∷ []) ∷ [])) 3 6 gives finds (answer 17 0 0) 0 0 0
     -- no reading
-    toCheck (nodes ((2 ∷ 0 ∷ 0 ∷ 0 ∷ 4 ∷ 0 ∷ 2 ∷ 511 ∷ 2 ∷ []) ∷ (0 ∷ 0 ∷ 0 ∷ 0 ∷ 4 ∷ 256 ∷ []) ∷ (20 ∷ 0 ∷ 2 ∷ []) ∷ [])) 24 gives leaves (answer 11 2 0) (freshFrom 0 24)
+    ∷ toCheck (nodes ((2 ∷ 0 ∷ 0 ∷ 0 ∷ 4 ∷ 0 ∷ 2 ∷ 32767 ∷ 32766 ∷ []) ∷ (18 ∷ []) ∷ [])) 16 gives leaves (answer 11 1 0) (freshFrom 0 16)
+    -- no reading
+    ∷ toCheck (nodes ((2 ∷ 0 ∷ 0 ∷ 0 ∷ 4 ∷ 0 ∷ 2 ∷ 32765 ∷ 32766 ∷ []) ∷ (18 ∷ []) ∷ [])) 16 gives leaves (answer 0 0 0) (words (4 ∷ 2 ∷ 32765 ∷ 32766 ∷ 0 ∷ 0 ∷ 0 ∷ 0 ∷ 4 ∷ 2 ∷ 65531 ∷ 65532 ∷ 0 ∷ 0 ∷ 0 ∷ 0 ∷ []))
+    -- no reading
+    ∷ toCheck (nodes ((2 ∷ 0 ∷ 0 ∷ 0 ∷ 4 ∷ 0 ∷ 2 ∷ 511 ∷ 2 ∷ []) ∷ (0 ∷ 0 ∷ 0 ∷ 0 ∷ 4 ∷ 256 ∷ []) ∷ (20 ∷ 0 ∷ 2 ∷ []) ∷ [])) 24 gives leaves (answer 11 2 0) (freshFrom 0 24)
     -- no reading
     ∷ toCheck (nodes ((2 ∷ 0 ∷ 0 ∷ 0 ∷ 4 ∷ 0 ∷ 2 ∷ 8191 ∷ 0 ∷ 16 ∷ []) ∷ (38 ∷ 0 ∷ 0 ∷ 0 ∷ 0 ∷ 0 ∷ 0 ∷ 0 ∷ 0 ∷ 2 ∷ []) ∷ [])) 16 gives leaves (answer 11 1 0) (freshFrom 0 16)
     -- no reading
@@ -42,6 +104,8 @@ table34 =
     ∷ toUnpackCheck (1 ∷ 0 ∷ 4 ∷ 255 ∷ 255 ∷ 3 ∷ []) gives number 720896
     -- no reading
     ∷ toList (1 ∷ 0 ∷ 4 ∷ 255 ∷ 255 ∷ 3 ∷ []) gives text (114 ∷ 101 ∷ 102 ∷ 117 ∷ 115 ∷ 101 ∷ 100 ∷ 32 ∷ 49 ∷ 49 ∷ 32 ∷ 97 ∷ 116 ∷ 32 ∷ 48 ∷ 10 ∷ [])
+    -- check of the three
+    ∷ toCheck (nodes ((0 ∷ 0 ∷ 0 ∷ 0 ∷ 0 ∷ 2 ∷ []) ∷ (0 ∷ 0 ∷ 0 ∷ 0 ∷ 0 ∷ 2 ∷ []) ∷ (42 ∷ 0 ∷ 2 ∷ []) ∷ [])) 24 gives leaves (answer 0 0 0) (words (times 3 (0 ∷ 0 ∷ 2 ∷ 2 ∷ 0 ∷ 0 ∷ 0 ∷ 0 ∷ [])))
     ∷ []
 
 pub table34-agrees : Agree table34

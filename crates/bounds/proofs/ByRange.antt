@@ -1,17 +1,18 @@
 -- The bounds of a result, by ranges of operations as the code asks for them.
 use Prim.Native.Nat.{ℕ, suc, _<_, _≤_}
-use mathlib.Core.Path.{_≡_, refl, sym, _∙_}
+use mathlib.Core.Path.{_≡_, refl, ap, sym, _∙_}
+use mathlib.Core.Bool.{Bool, true, false}
 use mathlib.Core.List.{List}
 use native.Mathlib.Omega.{arith}
 use lib.IntN.{ℤ, pos}
 use Rattle.laws.specs.Lists.{among}
 use Rattle.plan.specs.declared.Interval.{Interval}
 use Rattle.plan.specs.declared.Node.{Node}
-use Rattle.plan.specs.Operations.{byOperation}
+use Rattle.plan.specs.Operations.{isOperation, byOperation}
 use Rattle.plan.specs.Types.{between}
-use Rattle.plan.specs.Words.{listOf}
-use Rattle.plan.proofs.ByOperation.{_then_, for-range}
-use Rattle.bounds.specs.Rules.{maxBounds, whereBounds, gatheredCount, reduceBounds, boundsRules, resultBounds}
+use Rattle.plan.specs.Words.{listOf, inNumber}
+use Rattle.plan.proofs.ByOperation.{_then_, for-range, operation-small, stack-third}
+use Rattle.bounds.specs.Rules.{maxBounds, whereBounds, stackBounds, gatheredCount, reduceBounds, boundsRules, resultBounds}
 use Rattle.bounds.specs.Narrow.{Binary, Result}
 
 -- what is left of 9..17 after the eight before it
@@ -27,6 +28,18 @@ last-binary op l h n9 n10 n11 n12 n13 n14 n15 n16 =
 
     four′ : (op : ℕ) → 13 ≤ op → (op ≡ 13 → ⊥) → (op ≡ 14 → ⊥) → (op ≡ 15 → ⊥) → (op ≡ 16 → ⊥) → 17 ≤ op
     four′ op l a b c d = omega arith
+
+-- what is left: a STACK
+pub last-operation : (x : Node) → 18 ≤ x .op → (x .op ≡ 18 → ⊥) → (x .op ≡ 19 → ⊥) → (x .op ≡ 20 → ⊥) → (x .op ≡ 21 → ⊥) → (x .op ≡ 22 → ⊥) → isOperation (x .op) ≡ true → x .op ≡ 23
+last-operation x l n18 n19 n20 n21 n22 k = omega (arith, operation-small (x .op) k)
+
+pub stack-three : (a b c : Interval) {third : Bool} {p r : Interval} → third ≡ true → p ≡ whereBounds a b → r ≡ whereBounds p c → r ≡ stackBounds third a b c
+unfolding stackBounds
+stack-three a b c e f g = rw e (g ∙ ap (λ (p : Interval). whereBounds p c) f)
+
+pub stack-two : (a b c : Interval) {third : Bool} {p : Interval} → third ≡ false → p ≡ whereBounds a b → p ≡ stackBounds third a b c
+unfolding stackBounds
+stack-two a b c e f = rw e f
 
 module _ (x : Node) (n : ℕ) (a b c : Interval) where
   pub bounds-const : x .op ≡ 0 → Result x n a b c (between (x .number) (x .number))
@@ -55,7 +68,18 @@ module _ (x : Node) (n : ℕ) (a b c : Interval) where
   unfolding resultBounds among
   bounds-reduce q e s g = rw (q, e, ← (g q)) refl
 
-  pub bounds-load : 18 ≤ x .op → (x .op ≡ 18 → ⊥) → (x .op ≡ 19 → ⊥) → x .op < 21 → Result x n a b c a
+  pub bounds-load : x .op ≡ 20 → Result x n a b c a
   unfolding resultBounds among
-  bounds-load l n18 n19 h s g =
-      for-range (λ (k : ℕ). a ≡ byOperation k (boundsRules x s a b c) (between (pos 0) (pos 0))) (x .op) 20 1 (refl then tt) (omega arith) h
+  bounds-load q s g = rw q refl
+
+  pub bounds-fill : {r : Interval} → x .op ≡ 21 → r ≡ whereBounds a b → Result x n a b c r
+  unfolding resultBounds among
+  bounds-fill q e s g = rw (q, e) refl
+
+  pub bounds-known : x .op ≡ 22 → Result x n a b c (between (pos 0) (pos 1))
+  unfolding resultBounds among
+  bounds-known q s g = rw q refl
+
+  pub bounds-stack : {third : Bool} {r : Interval} → x .op ≡ 23 → third ≡ inNumber x 3 → r ≡ stackBounds third a b c → Result x n a b c r
+  unfolding resultBounds among
+  bounds-stack q e f s g = f ∙ rw (e, stack-third x q) (ap (λ (k : ℕ). byOperation k (boundsRules x s a b c) (between (pos 0) (pos 0))) (sym q))

@@ -6,9 +6,9 @@ use mathlib.Core.List.{List}
 use Rattle.laws.specs.Lists.{allBelow, among}
 use Rattle.plan.specs.declared.Interval.{Interval}
 use Rattle.plan.specs.declared.Node.{Node}
-use Rattle.plan.specs.Operations.{coversAll}
+use Rattle.plan.specs.Operations.{isOperation, coversAll}
 use Rattle.bounds.specs.Rules.{boundsRules}
 
 pub bounds-rules : (x : Node) (s : List ℕ) (a b c : Interval) → coversAll (boundsRules x s a b c) ≡ true
-unfolding allBelow among
+unfolding allBelow among isOperation
 bounds-rules x s a b c = refl

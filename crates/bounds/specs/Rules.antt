@@ -9,9 +9,9 @@ use Rattle.laws.specs.Integers.{sameZ, minZ, maxZ, min4, max4, floorDiv}
 use Rattle.laws.specs.Numbering.{count}
 use Rattle.plan.specs.declared.Interval.{Interval}
 use Rattle.plan.specs.declared.Node.{Node}
-use Rattle.plan.specs.Operations.{CONST, PARAM, CAST, ADD, MUL, MAX, IDIV, MOD, CMPLT, CMPNE, AND, OR, WHERE, REDUCE, LOAD, movements, Entry, _⇒_, byOperation}
+use Rattle.plan.specs.Operations.{CONST, PARAM, CAST, ADD, MUL, MAX, IDIV, MOD, CMPLT, CMPNE, AND, OR, WHERE, REDUCE, LOAD, FILL, KNOWN, STACK, movements, Entry, _⇒_, byOperation}
 use Rattle.plan.specs.Types.{between}
-use Rattle.plan.specs.Words.{sizeOf, listOf}
+use Rattle.plan.specs.Words.{sizeOf, listOf, reads}
 use Rattle.shapes.specs.Rules.{gatheredExtents}
 
 -- "least and greatest of four"
@@ -74,6 +74,11 @@ gatheredCount s flags = count (gatheredExtents s flags)
 unfoldable pub reduceBounds : ℤ → ℕ → Interval → Interval
 reduceBounds number n a = cond (eqb (sizeOf number) 0) (between (pos n *ℤ a .low) (pos n *ℤ a .high)) a
 
+-- STACK: "bounds least and greatest"
+unfoldable pub stackBounds : Bool → Interval → Interval → Interval → Interval
+stackBounds third a b c = cond third (whereBounds (whereBounds a b) c) (whereBounds a b)
+
+-- FILL: "bounds least low and greatest high". KNOWN: "bounds [0,1]".
 -- "CONST [v,v]; PARAM [low,high]; movement (2–7) and LOAD, the source's"; "CAST the source's"; s is the first source's extents
 abbrev pub boundsRules : Node → List ℕ → Interval → Interval → Interval → List (Entry Interval)
 boundsRules x s a b c =
@@ -90,6 +95,9 @@ boundsRules x s a b c =
     ∷ (CMPLT ∷ []) ⇒ cmpltBounds a b
     ∷ (CMPNE ∷ []) ⇒ cmpneBounds a b
     ∷ (REDUCE ∷ []) ⇒ reduceBounds (x .number) (gatheredCount s (listOf (x .rowa))) a
+    ∷ (FILL ∷ []) ⇒ whereBounds a b
+    ∷ (KNOWN ∷ []) ⇒ between (pos 0) (pos 1)
+    ∷ (STACK ∷ []) ⇒ stackBounds (reads x 3) a b c
     ∷ []
 
 unfoldable pub resultBounds : Node → List ℕ → Interval → Interval → Interval → Interval

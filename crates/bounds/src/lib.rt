@@ -1,12 +1,14 @@
 // Interval rules.
 ghost use mathlib.Core.Path.{_≡_};
+ghost use mathlib.Core.Bool.{true};
 ghost use Prim.Native.Nat.{_<_, _≤_};
 ghost use lib.IntN.{ℤ, pos, _*ℤ_};
 ghost use lib.Signed.{mag};
 ghost use Rattle.laws.specs.Integers.{minZ, maxZ, min4, max4, floorDiv, floorMod};
 ghost use Rattle.laws.proofs.Machine.{Small};
+ghost use Rattle.plan.specs.Operations.{isOperation};
 ghost use Rattle.plan.specs.Types.{between, holds, contains, rangeOf};
-ghost use Rattle.bounds.specs.Rules.{addBounds, mulBounds, maxBounds, minBounds, idivBounds, modBounds, whereBounds, cmpltBounds, cmpneBounds, reduceBounds};
+ghost use Rattle.bounds.specs.Rules.{addBounds, mulBounds, maxBounds, minBounds, idivBounds, modBounds, whereBounds, cmpltBounds, cmpneBounds, reduceBounds, stackBounds};
 ghost use Rattle.bounds.specs.Narrow.{wideOf, Held, Narrow, Binary, Result};
 use plan::Interval;
 use plan::Node;
@@ -298,9 +300,20 @@ fn reduce_bounds(number: i64, n: usize, a: Interval) -> Interval
     a
 }
 
+// The bounds of a STACK of two or three.
+fn stack_bounds(third: bool, a: Interval, b: Interval, c: Interval) -> Interval
+    ensures { λ r. ⌜ r ≡ stackBounds third a b c ⌝ }
+{
+    let two = where_bounds(a, b);
+    if third {
+        return where_bounds(two, c);
+    }
+    two
+}
+
 // The bounds of a node's result, from its sources' bounds; n elements are gathered where it is a REDUCE.
 pub fn result_bounds(x: Node, n: usize, a: Interval, b: Interval, c: Interval) -> Interval
-    requires { ⌜ (x .op < 21) × (n ≤ 1048576) × (Held a) × (Held b) ⌝ }
+    requires { ⌜ (isOperation (x .op) ≡ true) × (n ≤ 1048576) × (Held a) × (Held b) ⌝ }
     ensures { λ r. ⌜ Result x n a b c r ⌝ }
 {
     let op = x.op;
@@ -329,5 +342,14 @@ pub fn result_bounds(x: Node, n: usize, a: Interval, b: Interval, c: Interval) -
         let number = x.number;
         return reduce_bounds(number, n, a);
     }
-    a
+    if op == 20 {
+        return a;
+    }
+    if op == 21 {
+        return where_bounds(a, b);
+    }
+    if op == 22 {
+        return Interval { low: 0, high: 1 };
+    }
+    stack_bounds(plan::in_number(x, 3), a, b, c)
 }

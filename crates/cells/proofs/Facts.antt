@@ -4,7 +4,7 @@ use mathlib.Core.Path.{_≡_, refl}
 use mathlib.Core.List.{List, [], _∷_, map}
 use lib.IntN.{ℤ, pos, negsuc}
 use lib.ListN.{length}
-use Rattle.plan.specs.Operations.{CONST, PARAM, FLIP, PAD, CAST, ADD, MUL, MAX, IDIV, MOD, CMPLT, CMPNE, AND, OR, WHERE, REDUCE, LOAD}
+use Rattle.plan.specs.Operations.{CONST, PARAM, FLIP, PAD, CAST, ADD, MUL, MAX, IDIV, MOD, CMPLT, CMPNE, AND, OR, WHERE, REDUCE, LOAD, FILL, KNOWN, STACK}
 use Rattle.shapes.proofs.Facts.{nodeWith}
 use Rattle.cells.specs.Cells.{Cell, known, gap, Field}
 use Rattle.cells.specs.Nodes.{evalNode}
@@ -36,6 +36,10 @@ two op a b = evalNode (nodeWith op (pos 0) [] []) (length a ∷ []) (record { in
 
 abbrev choose : List Cell → List Cell → List Cell → List Cell
 choose a b c = evalNode (nodeWith WHERE (pos 0) [] []) (length a ∷ []) (record { input = []; a = row a; b = row b; c = row c })
+
+-- STACK of two or three fields
+abbrev stack : ℕ → List ℕ → Field → Field → Field → List Cell
+stack number r a b c = evalNode (nodeWith STACK (pos number) [] []) r (record { input = []; a = a; b = b; c = c })
 
 -- known numbers
 abbrev all : List ℤ → List Cell
@@ -90,8 +94,17 @@ facts =
     ∷ from REDUCE (pos 0) (1 ∷ 0 ∷ []) [] (1 ∷ 3 ∷ []) whole is all (pos 5 ∷ pos 7 ∷ pos 9 ∷ [])
     ∷ from REDUCE (pos 1) (0 ∷ 1 ∷ []) [] (2 ∷ 1 ∷ []) whole is all (pos 3 ∷ pos 6 ∷ [])
     ∷ from REDUCE (pos 0) (0 ∷ 1 ∷ []) [] (2 ∷ 1 ∷ []) holed is (known (pos 6) ∷ gap ∷ [])
+    -- FILL: "T where known, else C"; a gap of both is a gap; 0 is known
+    ∷ two FILL (known (pos 0) ∷ gap ∷ gap ∷ []) (known (pos 5) ∷ known (pos 6) ∷ gap ∷ []) is (known (pos 0) ∷ known (pos 6) ∷ gap ∷ [])
+    ∷ evalNode (nodeWith FILL (pos 0) [] []) (2 ∷ 3 ∷ []) (record { input = []; a = holed; b = row (all (pos 10 ∷ pos 20 ∷ pos 30 ∷ [])); c = row [] })
+    is all (pos 1 ∷ pos 2 ∷ pos 3 ∷ pos 4 ∷ pos 20 ∷ pos 6 ∷ [])
+    -- KNOWN: "1 where the source is known, else 0, never a gap"
+    ∷ from KNOWN (pos 0) [] [] (3 ∷ []) (row (known (pos 0) ∷ gap ∷ known (negsuc 6) ∷ [])) is all (pos 1 ∷ pos 0 ∷ pos 1 ∷ [])
+    -- STACK: one source after another, gaps carried along
+    ∷ stack 2 (2 ∷ 2 ∷ []) (row (known (pos 1) ∷ gap ∷ [])) (row (gap ∷ known (pos 4) ∷ [])) (row []) is (known (pos 1) ∷ gap ∷ gap ∷ known (pos 4) ∷ [])
+    ∷ stack 3 (3 ∷ []) (field [] (all (pos 7 ∷ []))) (field [] (gap ∷ [])) (field [] (all (pos 9 ∷ []))) is (known (pos 7) ∷ gap ∷ known (pos 9) ∷ [])
     ∷ []
 
 pub facts-hold : map asked facts ≡ map said facts
-unfolding Rattle.laws.specs.Integers.minZ Rattle.laws.specs.Integers.maxZ Rattle.laws.specs.Integers.floorDiv Rattle.laws.specs.Integers.floorMod Rattle.laws.specs.Lists.tab Rattle.laws.specs.Lists.allBelow Rattle.laws.specs.Lists.among Rattle.laws.specs.Lists.position Rattle.laws.specs.Numbering.count Rattle.laws.specs.Numbering.ravel Rattle.laws.specs.Numbering.coord Rattle.plan.specs.Words.sizeOf Rattle.shapes.specs.Rules.reduced Rattle.shapes.specs.Rules.gatheredExtents Rattle.shapes.specs.Sources.permuteSource Rattle.shapes.specs.Sources.flipSource Rattle.shapes.specs.Sources.expandSource Rattle.shapes.specs.Sources.inSource Rattle.shapes.specs.Sources.padSource Rattle.shapes.specs.Sources.shrinkSource Rattle.shapes.specs.Sources.sourceElement Rattle.shapes.specs.Sources.broadcastSource Rattle.shapes.specs.Sources.reduceSource Rattle.shapes.specs.Sources.gathered Rattle.cells.specs.Cells.foldCells Rattle.cells.specs.Cells.binary Rattle.cells.specs.Cells.reduction Rattle.cells.specs.Nodes.evalCell Rattle.cells.specs.Nodes.evalNode
+unfolding Rattle.laws.specs.Integers.minZ Rattle.laws.specs.Integers.maxZ Rattle.laws.specs.Integers.floorDiv Rattle.laws.specs.Integers.floorMod Rattle.laws.specs.Lists.tab Rattle.laws.specs.Lists.allBelow Rattle.laws.specs.Lists.among Rattle.laws.specs.Lists.position Rattle.laws.specs.Numbering.count Rattle.laws.specs.Numbering.ravel Rattle.laws.specs.Numbering.coord Rattle.plan.specs.Words.sizeOf Rattle.shapes.specs.Rules.reduced Rattle.shapes.specs.Rules.gatheredExtents Rattle.shapes.specs.Sources.permuteSource Rattle.shapes.specs.Sources.flipSource Rattle.shapes.specs.Sources.expandSource Rattle.shapes.specs.Sources.inSource Rattle.shapes.specs.Sources.padSource Rattle.shapes.specs.Sources.shrinkSource Rattle.shapes.specs.Sources.sourceElement Rattle.shapes.specs.Sources.broadcastSource Rattle.shapes.specs.Sources.reduceSource Rattle.shapes.specs.Sources.gathered Rattle.cells.specs.Cells.foldCells Rattle.cells.specs.Cells.binary Rattle.cells.specs.Cells.reduction Rattle.cells.specs.Nodes.evalCell Rattle.cells.specs.Nodes.evalNode Rattle.cells.specs.Nodes.stackCell
 facts-hold = refl

@@ -1,5 +1,5 @@
 -- A cell lies within the bounds of its node, if its sources' cells lie within theirs.
-use Prim.Native.Nat.{ℕ, zero, suc, _+_, _<_}
+use Prim.Native.Nat.{ℕ, zero, suc, _+_, _%_, _<_}
 use mathlib.Core.Path.{_≡_, refl, ap, sym, _∙_, subst}
 use mathlib.Core.Bool.{Bool, true, false, not, cond}
 use mathlib.Core.Option.{Option, none, some}
@@ -7,7 +7,7 @@ use mathlib.Core.List.{List, [], _∷_, _++_, map}
 use native.Mathlib.Omega.{arith}
 use native.Mathlib.Nat.{add-zero}
 use lib.IntN.{ℤ, pos, negsuc, _+ℤ_, _*ℤ_}
-use lib.Dec.{eqb}
+use lib.Dec.{eqb, ltb}
 use lib.ListN.{length, getD, length-map}
 use Rattle.laws.specs.Integers.{Within, sameZ, maxZ}
 use Rattle.laws.specs.Lists.{among}
@@ -19,16 +19,16 @@ use Rattle.laws.proofs.Sums.{sum-one, sum-step}
 use Rattle.plan.specs.declared.Interval.{Interval}
 use Rattle.plan.specs.declared.Node.{Node}
 use Rattle.plan.specs.declared.ElementNumber.{ElementNumber}
-use Rattle.plan.specs.Operations.{CONST, PARAM, CAST, IDIV, MOD, WHERE, REDUCE, followed, binaries, operationCount, byOperation}
+use Rattle.plan.specs.Operations.{CONST, PARAM, CAST, IDIV, MOD, WHERE, REDUCE, FILL, KNOWN, STACK, followed, binaries, isOperation, byOperation}
 use Rattle.plan.specs.Types.{between, holds}
-use Rattle.plan.specs.Words.{sizeOf, listOf, element}
+use Rattle.plan.specs.Words.{sizeOf, listOf, element, reads}
 use Rattle.plan.proofs.ByOperation.{_then_, by-operation, for-group, only}
 use Rattle.shapes.specs.Sources.{sourceElement, broadcastSource, gathered}
 use Rattle.shapes.proofs.Sources.{gathered-count}
-use Rattle.bounds.specs.Rules.{whereBounds, gatheredCount, reduceBounds, boundsRules, resultBounds}
+use Rattle.bounds.specs.Rules.{whereBounds, stackBounds, gatheredCount, reduceBounds, boundsRules, resultBounds}
 use Rattle.bounds.proofs.Sound.{In, add-sound, mul-sound, max-sound, min-sound, idiv-sound, mod-sound, cmplt-sound, cmpne-sound, where-left, where-right}
-use Rattle.cells.specs.Cells.{Cell, known, gap, Field, cellAt, cellFrom, both, whereCell, foldCells, reduceCells, binary, reduction}
-use Rattle.cells.specs.Nodes.{Operands, broadcastCell, cellRules, evalCell, evalNode}
+use Rattle.cells.specs.Cells.{Cell, known, gap, Field, cellAt, cellFrom, both, whereCell, fillCell, knownCell, foldCells, reduceCells, binary, reduction}
+use Rattle.cells.specs.Nodes.{Operands, broadcastCell, stackCell, cellRules, evalCell, evalNode}
 use Rattle.cells.proofs.Tables.{cell-rules}
 use Rattle.cells.proofs.Nodes.{everywhere}
 
@@ -88,6 +88,45 @@ where-sound : (b c : Interval) (k d e : Cell) → Bounded b d → Bounded c e �
 where-sound b c gap d e p q = tt
 where-sound b c (known z) d e p q = cond-both (Bounded (whereBounds b c)) (sameZ z (pos 0)) e d (λ f. widen-right b c e q) (λ f. widen-left b c d p)
 
+-- ---- FILL, KNOWN and STACK
+
+fill-sound : (a b : Interval) (c d : Cell) → Bounded a c → Bounded b d → Bounded (whereBounds a b) (fillCell c d)
+fill-sound a b (known z) d p q = where-left z a b p
+fill-sound a b gap d p q = widen-right a b d q
+
+known-sound : (c : Cell) → Bounded (between (pos 0) (pos 1)) (knownCell c)
+known-sound (known z) = record { low = omega arithℤ; high = omega arithℤ }
+known-sound gap = record { low = omega arithℤ; high = omega arithℤ }
+
+module _ (a b c : Interval) (d : Cell) where
+  stack-first : (third : Bool) → Bounded a d → Bounded (stackBounds third a b c) d
+  unfolding stackBounds
+  stack-first true p = widen-left (whereBounds a b) c d (widen-left a b d p)
+  stack-first false p = widen-left a b d p
+
+  stack-second : (third : Bool) → Bounded b d → Bounded (stackBounds third a b c) d
+  unfolding stackBounds
+  stack-second true p = widen-left (whereBounds a b) c d (widen-right a b d p)
+  stack-second false p = widen-right a b d p
+
+  stack-third : (third : Bool) → Bounded c d → (third ≡ false → d ≡ gap) → Bounded (stackBounds third a b c) d
+  unfolding stackBounds
+  stack-third true p empty = widen-right (whereBounds a b) c d p
+  stack-third false p empty = rw (empty refl) tt
+
+stack-sound : (third : Bool) (s : Operands) (a b c : Interval) → Sound a (s .a) → Sound b (s .b) → Sound c (s .c) → (third ≡ false → (e : ElementNumber) → cellAt (s .c) e ≡ gap)
+    → (e : ElementNumber) → Bounded (stackBounds third a b c) (stackCell s e)
+unfolding stackCell
+stack-sound third s a b c p q r empty e =
+    let n = count (s .a .extents) in
+    let o = element (e .0 % n) in
+    cond-both (λ (f : Field). Bounded (stackBounds third a b c) (cellAt f o)) (ltb (e .0) n) (s .a) (cond (ltb (e .0) (n + n)) (s .b) (s .c))
+    (λ l. stack-first a b c (cellAt (s .a) o) third (p o))
+    (λ l.
+    cond-both (λ (f : Field). Bounded (stackBounds third a b c) (cellAt f o)) (ltb (e .0) (n + n)) (s .b) (s .c)
+    (λ l. stack-second a b c (cellAt (s .b) o) third (q o))
+    (λ l. stack-third a b c (cellAt (s .c) o) third (r o) (λ t. empty t o)))
+
 -- ---- REDUCE
 
 abbrev Each : Interval → List Cell → Type 0
@@ -141,14 +180,20 @@ followed-bounds x s a b c =
     for-group (λ (k : ℕ). byOperation k (boundsRules x s a b c) (between (pos 0) (pos 0)) ≡ a) (x .op) followed
     (refl then refl then refl then refl then refl then refl then refl then tt)
 
+stacked-bounds : (x : Node) (s : List ℕ) (a b c : Interval) → x .op ≡ STACK → resultBounds x s a b c ≡ stackBounds (reads x 3) a b c
+unfolding resultBounds among
+stacked-bounds x s a b c q = rw q refl
+
 -- what a node's sources hold, and the input of a PARAM
 pub record Supplied (x : Node) (r : List ℕ) (s : Operands) (a b c : Interval) : Type 0 where
   pub input : x .op ≡ PARAM → (e : ℕ) → e < count r → Bounded (between (x .low) (x .high)) (getD (s .input) e gap)
   pub first : Sound a (s .a)
   pub second : Sound b (s .b)
   pub third : Sound c (s .c)
+  -- a source that is not read has no cells
+  pub unread : reads x 3 ≡ false → (e : ElementNumber) → cellAt (s .c) e ≡ gap
 
-module _ (x : Node) (r : List ℕ) (s : Operands) (a b c : Interval) (known-op : x .op < operationCount) (div : NoZero (x .op) b) (h : Supplied x r s a b c) where
+module _ (x : Node) (r : List ℕ) (s : Operands) (a b c : Interval) (known-op : isOperation (x .op) ≡ true) (div : NoZero (x .op) b) (h : Supplied x r s a b c) where
   abbrev Goal : Cell → Type 0
   Goal = Bounded (resultBounds x (s .a .extents) a b c)
 
@@ -167,6 +212,11 @@ module _ (x : Node) (r : List ℕ) (s : Operands) (a b c : Interval) (known-op :
       rw (only (x .op) WHERE m)
       (where-sound b c (broadcastCell (s .a) r e) (broadcastCell (s .b) r e) (broadcastCell (s .c) r e) (h .second (broadcastSource (s .b .extents) r e)) (h .third (broadcastSource (s .c .extents) r e))))
       then (λ m. rw (only (x .op) REDUCE m) (reduce-sound (x .number) (listOf (x .rowa)) (s .a) a e (h .first)))
+      then (λ m.
+      rw (only (x .op) FILL m)
+      (fill-sound a b (broadcastCell (s .a) r e) (broadcastCell (s .b) r e) (h .first (broadcastSource (s .a .extents) r e)) (h .second (broadcastSource (s .b .extents) r e))))
+      then (λ m. rw (only (x .op) KNOWN m) (known-sound (cellAt (s .a) e)))
+      then (λ m. rw (stacked-bounds x (s .a .extents) a b c (only (x .op) STACK m)) (stack-sound (reads x 3) s a b c (h .first) (h .second) (h .third) (h .unread) e))
       then tt)
 
   -- every cell of a node lies in the bounds that its rule gives

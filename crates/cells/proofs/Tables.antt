@@ -7,12 +7,12 @@ use lib.IntN.{ℤ}
 use Rattle.laws.specs.Lists.{allBelow, among}
 use Rattle.plan.specs.declared.Node.{Node}
 use Rattle.plan.specs.declared.ElementNumber.{ElementNumber}
-use Rattle.plan.specs.Operations.{operationCount, operationsOf, coversAll, binaries}
+use Rattle.plan.specs.Operations.{operationCount, isOperation, operationsOf, coversAll, binaries}
 use Rattle.cells.specs.Cells.{binaryRules}
 use Rattle.cells.specs.Nodes.{Operands, cellRules}
 
 pub cell-rules : (x : Node) (r : List ℕ) (s : Operands) (e : ElementNumber) → coversAll (cellRules x r s e) ≡ true
-unfolding allBelow among
+unfolding allBelow among isOperation
 cell-rules x r s e = refl
 
 -- numbers of two sources: exactly the binary operations

@@ -42,6 +42,16 @@ abbrev pub whereCell : Cell → Cell → Cell → Cell
 whereCell gap b c = gap
 whereCell (known z) b c = cond (sameZ z (pos 0)) c b
 
+-- FILL: "T where known, else C"
+abbrev pub fillCell : Cell → Cell → Cell
+fillCell (known z) d = known z
+fillCell gap d = d
+
+-- KNOWN: "1 where the source is known, else 0, never a gap"
+abbrev pub knownCell : Cell → Cell
+knownCell (known z) = known (pos 1)
+knownCell gap = known (pos 0)
+
 -- "REDUCE if any element it gathers is"
 unfoldable pub foldCells : (ℤ → ℤ → ℤ) → Cell → List Cell → Cell
 foldCells f c [] = c

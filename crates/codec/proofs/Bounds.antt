@@ -6,15 +6,16 @@ use mathlib.Core.List.{List, [], _∷_, _++_}
 use native.Mathlib.Omega.{arith}
 use borrow.Author.Tests.{ltb-true, leb-true}
 use lib.Dec.{leb, ltb, eqb}
-use lib.ListN.{length, getD, length-append}
+use lib.ListN.{length, getD, length-append, List·getD-append}
 use lib.IntN.{ℤ, pos}
 use Rattle.laws.proofs.Lists.{length-snoc}
 use Rattle.laws.proofs.Booleans.{cond-both, and-true}
 use Rattle.plan.specs.Answers.{Refusal, Outcome, accepted, refused, need, andThen, inTurn}
-use Rattle.plan.specs.Operations.{uses, operationCount}
+use Rattle.plan.specs.Operations.{uses, inFile}
+use Rattle.plan.specs.Words.{sizeOf}
 use Rattle.codec.specs.Numbers.{Read, groupsAt, numberAt, wordOf}
-use Rattle.codec.specs.Plans.{Unpacked, withWord, readWord, readNode, addNode}
-use Rattle.codec.specs.Steps.{nodesAt, countAt, allNodes}
+use Rattle.codec.specs.Plans.{Unpacked, withWord, readWord, headerOf, editionAt, editionOf, readNode, addNode}
+use Rattle.codec.specs.Steps.{nodesAt, headAt, countAt, Opened, openingAt, allNodes}
 
 -- P of what was found, Q of a refusal
 abbrev pub Holds : {A : Type 0} → (A → Type 0) → (Refusal → Type 0) → Outcome A → Type 0
@@ -53,7 +54,7 @@ abbrev pub EndsIn : List ℕ → Read → Type 0
 EndsIn s r = r .next ≤ length s
 
 abbrev PlacedAt : ℕ → Refusal → Type 0
-PlacedAt from r = (r .number ≤ 24) × (r .place ≡ from)
+PlacedAt from r = (r .number ≤ 26) × (r .place ≡ from)
 
 groups-hold : (k : ℕ) (s : List ℕ) (from at : ℕ) → Holds (EndsIn s) (PlacedAt from) (groupsAt k s from at)
 unfolding groupsAt
@@ -79,7 +80,7 @@ abbrev pub WordsIn : List ℕ → ℕ → ℕ → Unpacked → Type 0
 WordsIn s from n u = (length (u .words) ≡ n) × (from ≤ length s → u .next ≤ length s)
 
 abbrev pub PlacedIn : List ℕ → ℕ → Refusal → Type 0
-PlacedIn s from r = (r .number ≤ 24) × (from ≤ length s → r .place ≤ length s)
+PlacedIn s from r = (r .number ≤ 26) × (from ≤ length s → r .place ≤ length s)
 
 module _ (s : List ℕ) (from : ℕ) where
   number-holds : (at : ℕ) → (from ≤ length s → at ≤ length s) → Holds (EndsIn s) (PlacedIn s from) (numberAt s at)
@@ -102,55 +103,106 @@ module _ (s : List ℕ) (from : ℕ) where
       holds-turn (λ (k : ℕ). WordsIn s from (suc k)) (PlacedIn s from) (readWord op s) (record { words = pos op ∷ []; next = at }) (refl, h)
       (λ k u q. word-holds op k (suc k) u q) k
 
-  node-holds : (at : ℕ) → (from ≤ length s → at ≤ length s) → Holds (WordsIn s from 17) (PlacedIn s from) (readNode s at)
+  node-holds : (edition at : ℕ) → (from ≤ length s → at ≤ length s) → Holds (WordsIn s from 17) (PlacedIn s from) (readNode edition s at)
   unfolding readNode
-  node-holds at h =
+  node-holds edition at h =
       let rest : Read → Outcome Unpacked = λ op. inTurn (readWord (op .value) s) (record { words = pos (op .value) ∷ []; next = op .next }) 16 in
-      holds-then (EndsIn s) (WordsIn s from 17) (PlacedIn s from) (numberAt s at) (λ op. need (ltb (op .value) operationCount) 24 at (rest op)) (number-holds at h)
-      (λ op q. holds-need (WordsIn s from 17) (PlacedIn s from) (ltb (op .value) operationCount) 24 at (rest op) (λ _. words-hold (op .value) (op .next) 16 (λ _. q)) (omega arith, h))
+      holds-then (EndsIn s) (WordsIn s from 17) (PlacedIn s from) (numberAt s at) (λ op. need (inFile edition (op .value)) 24 at (rest op)) (number-holds at h)
+      (λ op q. holds-need (WordsIn s from 17) (PlacedIn s from) (inFile edition (op .value)) 24 at (rest op) (λ _. words-hold (op .value) (op .next) 16 (λ _. q)) (omega arith, h))
 
   -- a node more
-  add-holds : (n : ℕ) (u : Unpacked) → WordsIn s from (17 * n) u → Holds (WordsIn s from (17 * suc n)) (PlacedIn s from) (addNode s n u)
+  add-holds : (edition n : ℕ) (u : Unpacked) → WordsIn s from (17 * n) u → Holds (WordsIn s from (17 * suc n)) (PlacedIn s from) (addNode edition s n u)
   unfolding addNode
-  add-holds n u h =
-      holds-then (WordsIn s from 17) (WordsIn s from (17 * suc n)) (PlacedIn s from) (readNode s (u .next))
-      (λ more. accepted (record { words = u .words ++ more .words; next = more .next })) (node-holds (u .next) (h .1))
+  add-holds edition n u h =
+      holds-then (WordsIn s from 17) (WordsIn s from (17 * suc n)) (PlacedIn s from) (readNode edition s (u .next))
+      (λ more. accepted (record { words = u .words ++ more .words; next = more .next })) (node-holds edition (u .next) (h .1))
       (λ more q. (omega (arith, length-append (u .words) (more .words), h .0, q .0), q .1))
 
-nodes-hold : (s : List ℕ) (at n : ℕ) → Holds (WordsIn s at (17 * n)) (PlacedIn s at) (nodesAt n s at)
+nodes-hold : (edition : ℕ) (s : List ℕ) (at n : ℕ) → Holds (WordsIn s at (17 * n)) (PlacedIn s at) (nodesAt edition n s at)
 unfolding nodesAt
-nodes-hold s at n =
-    holds-turn (λ (n : ℕ). WordsIn s at (17 * n)) (PlacedIn s at) (addNode s) (record { words = []; next = at }) (refl, λ i. i) (λ n u h. add-holds s at n u h) n
+nodes-hold edition s at n =
+    holds-turn (λ (n : ℕ). WordsIn s at (17 * n)) (PlacedIn s at) (addNode edition s) (record { words = []; next = at }) (refl, λ i. i) (λ n u h. add-holds s at edition n u h) n
+
+-- the operation stays in front
+abbrev Begins : ℕ → Unpacked → Type 0
+Begins op u = (0 < length (u .words)) × (sizeOf (getD (u .words) 0 (pos 0)) ≡ op)
+
+begins-more : (op : ℕ) (u : Unpacked) (w : ℤ) (next : ℕ) → Begins op u → Begins op (withWord u w next)
+begins-more op u w next h = (omega (arith, h .0, length-snoc (u .words) w), ap sizeOf (List·getD-append (u .words) (w ∷ []) (pos 0) 0 (h .0)) ∙ h .1)
+
+word-begins : (op k : ℕ) (s : List ℕ) (u : Unpacked) → Begins op u → Holds (Begins op) (λ r. Unit) (readWord op s k u)
+unfolding readWord
+word-begins op k s u h =
+    let add : Read → Outcome Unpacked = λ read. accepted (withWord u (wordOf (read .value)) (read .next)) in
+    cond-both (Holds (Begins op) (λ r. Unit)) (uses op (k + 1)) (andThen (numberAt s (u .next)) add) (accepted (withWord u (pos 0) (u .next)))
+    (λ _. by (numberAt s (u .next))) (λ _. begins-more op u (pos 0) (u .next) h)
+  where
+    by : (o : Outcome Read) → Holds (Begins op) (λ r. Unit) (andThen o (λ (read : Read). accepted (withWord u (wordOf (read .value)) (read .next))))
+    by (accepted r) = begins-more op u (wordOf (r .value)) (r .next) h
+    by (refused r) = tt
+
+pub words-first : (op : ℕ) (s : List ℕ) (at k : ℕ) {u : Unpacked} → inTurn (readWord op s) (record { words = pos op ∷ []; next = at }) k ≡ accepted u → sizeOf (getD (u .words) 0 (pos 0)) ≡ op
+unfolding sizeOf
+words-first op s at k e =
+    subst (Holds (Begins op) (λ r. Unit)) e
+    (holds-turn (λ (k : ℕ). Begins op) (λ r. Unit) (readWord op s) (record { words = pos op ∷ []; next = at }) (omega arith, refl) (λ k u q. word-begins op k s u q) k) .1
 
 -- how many words
 pub words-long : (op : ℕ) (s : List ℕ) (at k : ℕ) {u : Unpacked} → inTurn (readWord op s) (record { words = pos op ∷ []; next = at }) k ≡ accepted u → length (u .words) ≡ suc k
 words-long op s at k e = subst (Holds (WordsIn s at (suc k)) (PlacedIn s at)) e (words-hold s at op at k (λ i. i)) .0
 
-pub nodes-long : (s : List ℕ) (at n : ℕ) {u : Unpacked} → nodesAt n s at ≡ accepted u → length (u .words) ≡ 17 * n
-nodes-long s at n e = subst (Holds (WordsIn s at (17 * n)) (PlacedIn s at)) e (nodes-hold s at n) .0
+pub nodes-long : (edition : ℕ) (s : List ℕ) (at n : ℕ) {u : Unpacked} → nodesAt edition n s at ≡ accepted u → length (u .words) ≡ 17 * n
+nodes-long edition s at n e = subst (Holds (WordsIn s at (17 * n)) (PlacedIn s at)) e (nodes-hold edition s at n) .0
 
--- ---- the count, all nodes
+-- ---- the opening, all nodes
 
-abbrev pub CountIn : List ℕ → Read → Type 0
+abbrev CountIn : List ℕ → Read → Type 0
 CountIn s r = (1 ≤ r .value) × (r .value ≤ 256) × (r .next ≤ length s)
 
-pub count-holds : (s : List ℕ) → Holds (CountIn s) (PlacedIn s 0) (countAt s)
+count-holds : (s : List ℕ) (at : ℕ) → at ≤ length s → Holds (CountIn s) (PlacedIn s 0) (countAt s at)
 unfolding countAt
-count-holds s =
-    holds-then (EndsIn s) (CountIn s) (PlacedIn s 0) (numberAt s 0) (λ c. need (leb 1 (c .value) && leb (c .value) 256) 23 0 (accepted c)) (number-holds s 0 0 (λ i. i))
+count-holds s at l =
+    holds-then (EndsIn s) (CountIn s) (PlacedIn s 0) (numberAt s at) (λ c. need (leb 1 (c .value) && leb (c .value) 256) 23 0 (accepted c)) (number-holds s 0 at (λ _. l))
     (λ c q.
     holds-need (CountIn s) (PlacedIn s 0) (leb 1 (c .value) && leb (c .value) 256) 23 0 (accepted c)
     (λ b. let t = and-true (leb 1 (c .value)) (leb (c .value) 256) b in (leb-true 1 (c .value) (t .0), leb-true (c .value) 256 (t .1), q))
     (omega arith, λ i. i))
 
-pub all-hold : (s : List ℕ) (at n : ℕ) → Holds (WordsIn s at (17 * n)) (PlacedIn s at) (allNodes n s at)
+head-holds : (s : List ℕ) → Holds (EndsIn s) (PlacedIn s 0) (headAt s)
+unfolding headAt editionAt
+head-holds s =
+    let next : ℕ → Outcome Read = λ edition. accepted (record { value = edition; next = length (headerOf edition) }) in
+    let second : Outcome ℕ = need (ltb 1 (length s) && eqb (getD s 1 0) 2) 23 0 (accepted 2) in
+    cond-both (λ (o : Outcome ℕ). Holds (EndsIn s) (PlacedIn s 0) (andThen o next)) (ltb 0 (length s) && eqb (getD s 0 0) 0) second (accepted 1)
+    (λ _. two (ltb 1 (length s) && eqb (getD s 1 0) 2) (λ b. ltb-true 1 (length s) (and-true (ltb 1 (length s)) (eqb (getD s 1 0) 2) b .0)))
+    (λ _. omega arith)
+  where
+    two : (b : Bool) → (b ≡ true → 1 < length s)
+        → Holds (EndsIn s) (PlacedIn s 0) (andThen (need b 23 0 (accepted 2)) (λ (edition : ℕ). accepted (record { value = edition; next = length (headerOf edition) })))
+    two true h = omega (arith, h refl)
+    two false h = (omega arith, λ i. omega arith)
+
+abbrev pub OpenedIn : List ℕ → Opened → Type 0
+OpenedIn s o = (1 ≤ o .count) × (o .count ≤ 256) × (o .next ≤ length s)
+
+pub opening-holds : (s : List ℕ) → Holds (OpenedIn s) (PlacedIn s 0) (openingAt s)
+unfolding openingAt
+opening-holds s =
+    holds-then (EndsIn s) (OpenedIn s) (PlacedIn s 0) (headAt s) _ (head-holds s)
+    (λ h q. holds-then (CountIn s) (OpenedIn s) (PlacedIn s 0) (countAt s (h .next)) (λ count. accepted (record { edition = h .value; count = count .value; next = count .next })) (count-holds s (h .next) q) (λ c w. w))
+
+pub all-hold : (edition : ℕ) (s : List ℕ) (at n : ℕ) → Holds (WordsIn s at (17 * n)) (PlacedIn s at) (allNodes edition n s at)
 unfolding allNodes
-all-hold s at n =
-    holds-then (WordsIn s at (17 * n)) (WordsIn s at (17 * n)) (PlacedIn s at) (nodesAt n s at) (λ u. need (leb (length s) (u .next)) 22 (u .next) (accepted u)) (nodes-hold s at n)
-    (λ u q. holds-need (WordsIn s at (17 * n)) (PlacedIn s at) (leb (length s) (u .next)) 22 (u .next) (accepted u) (λ _. q) (omega arith, q .1))
+all-hold edition s at n =
+    let P : Unpacked → Type 0 = WordsIn s at (17 * n) in
+    let Q : Refusal → Type 0 = PlacedIn s at in
+    holds-then P P Q (nodesAt edition n s at) (λ u. need (leb (length s) (u .next)) 22 (u .next) (need (eqb edition (editionOf (u .words))) 26 0 (accepted u))) (nodes-hold edition s at n)
+    (λ u q.
+    holds-need P Q (leb (length s) (u .next)) 22 (u .next) (need (eqb edition (editionOf (u .words))) 26 0 (accepted u))
+    (λ _. holds-need P Q (eqb edition (editionOf (u .words))) 26 0 (accepted u) (λ _. q) (omega arith, λ i. omega arith)) (omega arith, q .1))
 
-pub count-in : (s : List ℕ) {r : Read} → countAt s ≡ accepted r → CountIn s r
-count-in s e = subst (Holds (CountIn s) (PlacedIn s 0)) e (count-holds s)
+pub opening-in : (s : List ℕ) {o : Opened} → openingAt s ≡ accepted o → OpenedIn s o
+opening-in s e = subst (Holds (OpenedIn s) (PlacedIn s 0)) e (opening-holds s)
 
-pub all-long : (s : List ℕ) (at n : ℕ) {u : Unpacked} → allNodes n s at ≡ accepted u → length (u .words) ≡ 17 * n
-all-long s at n e = subst (Holds (WordsIn s at (17 * n)) (PlacedIn s at)) e (all-hold s at n) .0
+pub all-long : (edition : ℕ) (s : List ℕ) (at n : ℕ) {u : Unpacked} → allNodes edition n s at ≡ accepted u → length (u .words) ≡ 17 * n
+all-long edition s at n e = subst (Holds (WordsIn s at (17 * n)) (PlacedIn s at)) e (all-hold edition s at n) .0

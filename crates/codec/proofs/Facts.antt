@@ -79,6 +79,18 @@ facts =
     ∷ plan (unpack (1 ∷ 149 ∷ 0 ∷ 9 ∷ []) 17) is plan (refuse 21 1)
     -- "22: bytes left over; first of them"
     ∷ plan (unpack (1 ∷ 0 ∷ 4 ∷ 10 ∷ 9 ∷ 9 ∷ []) 17) is plan (refuse 22 4)
+    -- "A second edition file starts with bytes 00 02, then count and nodes as before": KNOWN of node 0
+    ∷ plan (unpack (0 ∷ 2 ∷ 2 ∷ 0 ∷ 4 ∷ 10 ∷ 22 ∷ 0 ∷ []) 34) is table (constant (pos 5) ++ pos 22 ∷ zeros 16) 8
+    -- "for second edition files, rule 24 the limit is 23"; "First edition readers keep refusing 23 and 24"
+    ∷ plan (unpack (0 ∷ 2 ∷ 1 ∷ 24 ∷ []) 17) is plan (refuse 24 3)
+    ∷ plan (unpack (2 ∷ 0 ∷ 4 ∷ 10 ∷ 22 ∷ 0 ∷ []) 34) is plan (refuse 24 4)
+    -- "a leading 00 not followed by 02 is 23"; 20 and 23 of a second edition file's count
+    ∷ plan (unpack (0 ∷ 130 ∷ 0 ∷ []) 17) is plan (refuse 23 0)
+    ∷ plan (unpack (0 ∷ 2 ∷ []) 17) is plan (refuse 20 2)
+    ∷ plan (unpack (0 ∷ 2 ∷ 0 ∷ []) 17) is plan (refuse 23 0)
+    -- "26 for a second edition file with no new operation, after 22"
+    ∷ plan (unpack (0 ∷ 2 ∷ 1 ∷ 0 ∷ 4 ∷ 10 ∷ []) 17) is plan (refuse 26 0)
+    ∷ plan (unpack (0 ∷ 2 ∷ 1 ∷ 0 ∷ 4 ∷ 10 ∷ 9 ∷ []) 17) is plan (refuse 22 6)
     -- "unpacking also answers the node count"
     ∷ answer (unpackAnswer (unpack (2 ∷ 0 ∷ 4 ∷ 10 ∷ 0 ∷ 4 ∷ 10 ∷ []) 34)) is answer (record { number = 0; place = 0; count = 2 })
     -- "Buffer places past what any call writes stay as they were."
@@ -86,5 +98,5 @@ facts =
     ∷ []
 
 pub facts-hold : map asked facts ≡ map said facts
-unfolding Rattle.laws.specs.Lists.among Rattle.plan.specs.Answers.inTurn Rattle.plan.specs.Answers.written Rattle.plan.specs.Operations.uses Rattle.codec.specs.Numbers.groupsAt Rattle.codec.specs.Numbers.numberAt Rattle.codec.specs.Numbers.wordOf Rattle.codec.specs.Plans.readWord Rattle.codec.specs.Plans.readNode Rattle.codec.specs.Plans.addNode Rattle.codec.specs.Plans.unpack
+unfolding Rattle.laws.specs.Lists.among Rattle.plan.specs.Answers.inTurn Rattle.plan.specs.Answers.written Rattle.plan.specs.Operations.uses Rattle.codec.specs.Numbers.groupsAt Rattle.codec.specs.Numbers.numberAt Rattle.codec.specs.Numbers.wordOf Rattle.codec.specs.Plans.readWord Rattle.codec.specs.Plans.readNode Rattle.codec.specs.Plans.addNode Rattle.codec.specs.Plans.unpack Rattle.laws.specs.Lists.allBelow Rattle.plan.specs.Operations.isNew Rattle.plan.specs.Operations.isOperation Rattle.plan.specs.Operations.inFile Rattle.plan.specs.Words.sizeOf Rattle.plan.specs.Words.wordsOf Rattle.plan.specs.Words.nodeCount Rattle.codec.specs.Plans.editionAt Rattle.codec.specs.Plans.noneNew Rattle.codec.specs.Plans.editionOf
 facts-hold = refl

@@ -1,22 +1,25 @@
 -- How far unpacking reads: the positions of numbers, words and nodes; and that bytes past them alter nothing.
-use Prim.Native.Nat.{ℕ, zero, suc, _+_, _*_, _%_, _^_, _<_, _≤_}
-use mathlib.Core.Path.{_≡_, refl}
-use mathlib.Core.Bool.{Bool, true, false, _&&_, not, cond, false≢true}
+use Prim.Native.Nat.{ℕ, zero, suc, _+_, _*_, _/_, _%_, _^_, _<_, _≤_}
+use mathlib.Core.Path.{_≡_, refl, sym, _∙_}
+use mathlib.Core.Logic.{⊎-elim}
+use mathlib.Core.Bool.{Bool, true, false, _&&_, _||_, not, cond, false≢true}
 use mathlib.Core.List.{List, [], _∷_, _++_}
 use native.Mathlib.Nat.{pow-succ'}
 use native.Mathlib.Omega.{arith}
-use borrow.Author.Tests.{ltb-true, leb-true, lt-ltb, lt-leb, eq-eqb}
+use borrow.Author.Tests.{leb-true, eqb-true, lt-ltb, lt-leb, eq-eqb}
 use lib.Dec.{leb, ltb, eqb}
-use lib.ListN.{length, getD}
+use lib.ListN.{length, getD, length-append}
 use lib.IntN.{pos}
 use Rattle.laws.specs.Lists.{allBelow, among}
-use Rattle.laws.proofs.Booleans.{cond-both, and-true, all-below}
+use Rattle.laws.proofs.Booleans.{bool-cases, cond-both, and-true, all-below}
 use Rattle.plan.specs.Answers.{Refusal, Outcome, accepted, refused, need, andThen, inTurn}
-use Rattle.plan.specs.Operations.{uses, operationCount}
+use Rattle.plan.specs.Operations.{uses, operationCount, isNew, inFile}
+use Rattle.plan.specs.Words.{sizeOf, nodeCount}
 use Rattle.codec.specs.Numbers.{Read, groupsAt, numberAt, wordOf}
-use Rattle.codec.specs.Plans.{Unpacked, withWord, readWord, readNode, addNode, unpack}
-use Rattle.codec.specs.Steps.{nodesAt, countAt, allNodes}
-use Rattle.codec.proofs.Bounds.{Holds, holds-need, holds-map, holds-then, holds-turns}
+use Rattle.codec.specs.Plans.{Unpacked, withWord, readWord, headerOf, editionAt, noneNew, editionOf, readNode, addNode, unpack}
+use Rattle.codec.specs.Steps.{nodesAt, headAt, countAt, Opened, openingAt, allNodes}
+use Rattle.codec.proofs.Bounds.{Holds, holds-need, holds-map, holds-then, holds-turns, words-long, words-first}
+use Rattle.codec.proofs.Editions.{file-known, new-among}
 use Rattle.codec.proofs.Unpacking.{parts}
 
 -- a refusal's number is not 0, and its place is at most `end`
@@ -97,9 +100,49 @@ pub few-used : (op k : ℕ) → op < operationCount → k < 17 → used op k ≤
 few-used op k h l =
     leb-true (used op k) 9 (all-below 17 (λ (k : ℕ). leb (used op k) 9) (all-below operationCount (λ (op : ℕ). allBelow 17 (λ (k : ℕ). leb (used op k) 9)) table op h) k l)
 
+-- and no new one more than four
+new-table : allBelow operationCount (λ (op : ℕ). not (isNew op) || leb (used op 16) 4) ≡ true
+unfolding allBelow among uses used isNew
+new-table = refl
+
+few-new : (op : ℕ) → op < operationCount → isNew op ≡ true → used op 16 ≤ 4
+few-new op h n = leb-true (used op 16) 4 (rw n at (all-below operationCount (λ (op : ℕ). not (isNew op) || leb (used op 16) 4) new-table op h))
+
 -- the position after what was read is at most `end`
 abbrev EndsBy : ℕ → Unpacked → Type 0
 EndsBy end u = u .next ≤ end
+
+-- k words after the operation's: where they end, how many there are, and the first
+record Words (op at k : ℕ) (u : Unpacked) : Type 0 where
+  ends : u .next ≤ at + 5 * used op k
+  long : length (u .words) ≡ suc k
+  begins : sizeOf (getD (u .words) 0 (pos 0)) ≡ op
+
+-- a node that was read from `at` on
+record NodeBy (at : ℕ) (u : Unpacked) : Type 0 where
+  seventeen : length (u .words) ≡ 17
+  short : u .next ≤ at + 46
+  new : isNew (sizeOf (getD (u .words) 0 (pos 0))) ≡ true → u .next ≤ at + 21
+
+-- n nodes: a new one among them leaves 25 of the bytes
+record NodesBy (at n : ℕ) (u : Unpacked) : Type 0 where
+  long : length (u .words) ≡ 17 * n
+  short : u .next ≤ at + 46 * n
+  new : noneNew (u .words) n ≡ false → u .next + 25 ≤ at + 46 * n
+
+no-nodes : (at : ℕ) → NodesBy at 0 (record { words = []; next = at })
+unfolding noneNew allBelow
+no-nodes at = record { long = refl; short = omega arith; new = λ e. absurd (false≢true (sym e)) }
+
+more-nodes : (at n : ℕ) (u more : Unpacked) → NodesBy at n u → NodeBy (u .next) more → NodesBy at (suc n) (record { words = u .words ++ more .words; next = more .next })
+more-nodes at n u more h q =
+    record {
+      long = omega (arith, length-append (u .words) (more .words), h .long, q .seventeen);
+      short = omega (arith, h .short, q .short);
+      new =
+          λ e.
+          ⊎-elim (λ w. omega (arith, h .new w, q .short)) (λ w. omega (arith, h .short, q .new w)) (new-among n (u .words) (more .words) (h .long) (omega (arith, q .seventeen)) e);
+    }
 
 module _ (end : ℕ) (s : List ℕ) where
   word-ends : (op at k : ℕ) (u : Unpacked) → at + 5 * used op k ≤ end → EndsBy (at + 5 * used op k) u
@@ -123,72 +166,148 @@ module _ (end : ℕ) (s : List ℕ) where
       holds-turns (λ (k : ℕ). EndsBy (at + 5 * used op k)) (PlacedTo end) (readWord op s) (record { words = pos op ∷ []; next = at }) (omega arith) k
       (λ n u q w. word-ends op at n u (omega (arith, few-used op n h (omega arith))) w)
 
-  -- a node takes at most 46 bytes: one, and nine words
-  node-ends : (at : ℕ) → at + 46 ≤ end → Holds (EndsBy (at + 46)) (PlacedTo end) (readNode s at)
+  -- with how many they are, and the operation in front
+  all-words : (op at : ℕ) → op < operationCount → at + 45 ≤ end → (k : ℕ) → k < 17
+      → Holds (Words op at k) (PlacedTo end) (inTurn (readWord op s) (record { words = pos op ∷ []; next = at }) k)
+  all-words op at h e k l = by (inTurn (readWord op s) (record { words = pos op ∷ []; next = at }) k) refl (words-end op at h e k l)
+    where
+      by : (o : Outcome Unpacked) → inTurn (readWord op s) (record { words = pos op ∷ []; next = at }) k ≡ o → Holds (EndsBy (at + 5 * used op k)) (PlacedTo end) o → Holds (Words op at k) (PlacedTo end) o
+      by (accepted u) q w = record { ends = w; long = words-long op s at k q; begins = words-first op s at k q }
+      by (refused r) q w = w
+
+  -- a node takes at most 46 bytes: one, and nine words; a new one 21
+  node-ends : (edition at : ℕ) → at + 46 ≤ end → Holds (NodeBy at) (PlacedTo end) (readNode edition s at)
   unfolding readNode
-  node-ends at e =
+  node-ends edition at e =
       let rest : Read → Outcome Unpacked = λ op. inTurn (readWord (op .value) s) (record { words = pos (op .value) ∷ []; next = op .next }) 16 in
-      holds-then (NumberAt at) (EndsBy (at + 46)) (PlacedTo end) (numberAt s at) (λ op. need (ltb (op .value) operationCount) 24 at (rest op)) (number-ends end s at (omega arith))
+      holds-then (NumberAt at) (NodeBy at) (PlacedTo end) (numberAt s at) (λ op. need (inFile edition (op .value)) 24 at (rest op)) (number-ends end s at (omega arith))
       (λ op q.
-      holds-need (EndsBy (at + 46)) (PlacedTo end) (ltb (op .value) operationCount) 24 at (rest op)
+      holds-need (NodeBy at) (PlacedTo end) (inFile edition (op .value)) 24 at (rest op)
       (λ b.
-      let h : op .value < operationCount = ltb-true (op .value) operationCount b in
+      let h : op .value < operationCount = file-known edition (op .value) b in
       let one : op .next ≤ at + 1 = op-ends q h in
-      holds-map (EndsBy (op .next + 5 * used (op .value) 16)) (EndsBy (at + 46)) (PlacedTo end) (PlacedTo end) (rest op) (λ u w. omega (arith, few-used (op .value) 16 h (omega arith))) (λ r w. w)
-      (words-end (op .value) (op .next) h (omega arith) 16 (omega arith)))
+      holds-map (Words (op .value) (op .next) 16) (NodeBy at) (PlacedTo end) (PlacedTo end) (rest op)
+      (λ u w.
+      record {
+        seventeen = w .long;
+        short = omega (arith, w .ends, few-used (op .value) 16 h (omega arith));
+        new = λ n. omega (arith, w .ends, few-new (op .value) h (rw (w .begins) at n));
+      })
+      (λ r w. w) (all-words (op .value) (op .next) h (omega arith) 16 (omega arith)))
       (omega arith, omega arith))
 
-  add-ends : (at n : ℕ) (u : Unpacked) → at + 46 * suc n ≤ end → EndsBy (at + 46 * n) u → Holds (EndsBy (at + 46 * suc n)) (PlacedTo end) (addNode s n u)
+  add-ends : (edition at n : ℕ) (u : Unpacked) → at + 46 * suc n ≤ end → NodesBy at n u → Holds (NodesBy at (suc n)) (PlacedTo end) (addNode edition s n u)
   unfolding addNode
-  add-ends at n u e h =
-      holds-then (EndsBy (u .next + 46)) (EndsBy (at + 46 * suc n)) (PlacedTo end) (readNode s (u .next))
-      (λ more. accepted (record { words = u .words ++ more .words; next = more .next })) (node-ends (u .next) (omega arith)) (λ more q. omega arith)
+  add-ends edition at n u e h =
+      holds-then (NodeBy (u .next)) (NodesBy at (suc n)) (PlacedTo end) (readNode edition s (u .next))
+      (λ more. accepted (record { words = u .words ++ more .words; next = more .next })) (node-ends edition (u .next) (omega (arith, h .short))) (λ more q. more-nodes at n u more h q)
 
-  nodes-end : (at m : ℕ) → at + 46 * m ≤ end → Holds (EndsBy (at + 46 * m)) (PlacedTo end) (nodesAt m s at)
+  nodes-end : (edition at m : ℕ) → at + 46 * m ≤ end → Holds (NodesBy at m) (PlacedTo end) (nodesAt edition m s at)
   unfolding nodesAt
-  nodes-end at m e =
-      holds-turns (λ (n : ℕ). EndsBy (at + 46 * n)) (PlacedTo end) (addNode s) (record { words = []; next = at }) (omega arith) m
-      (λ n u q h. add-ends at n u (omega arith) h)
+  nodes-end edition at m e =
+      holds-turns (NodesBy at) (PlacedTo end) (addNode edition s) (record { words = []; next = at }) (no-nodes at) m
+      (λ n u q h. add-ends edition at n u (omega arith) h)
 
 -- ---- the whole
 
 -- a count of at most 256 takes two bytes
-abbrev Counts : Read → Type 0
-Counts r = (r .value ≤ 256) × (r .next ≤ 2)
+abbrev Counts : ℕ → Read → Type 0
+Counts at r = (r .value ≤ 256) × (r .next ≤ at + 2)
 
-count-ends : (end : ℕ) (s : List ℕ) → Holds Counts (PlacedTo end) (countAt s)
+count-ends : (end : ℕ) (s : List ℕ) (at : ℕ) → at ≤ end → Holds (Counts at) (PlacedTo end) (countAt s at)
 unfolding countAt
-count-ends end s =
-    holds-then (NumberAt 0) Counts (PlacedTo end) (numberAt s 0) (λ c. need (leb 1 (c .value) && leb (c .value) 256) 23 0 (accepted c)) (number-ends end s 0 (omega arith))
+count-ends end s at l =
+    holds-then (NumberAt at) (Counts at) (PlacedTo end) (numberAt s at) (λ c. need (leb 1 (c .value) && leb (c .value) 256) 23 0 (accepted c)) (number-ends end s at l)
     (λ c q.
-    holds-need Counts (PlacedTo end) (leb 1 (c .value) && leb (c .value) 256) 23 0 (accepted c)
+    holds-need (Counts at) (PlacedTo end) (leb 1 (c .value) && leb (c .value) 256) 23 0 (accepted c)
     (λ b.
     let few : c .value ≤ 256 = leb-true (c .value) 256 (and-true (leb 1 (c .value)) (leb (c .value) 256) b .1) in
     (few, q .short 2 (omega arith) (omega arith)))
     (omega arith, omega arith))
 
+-- the bytes that name the edition
+data Heads : Read → Type 0 where
+  old : Heads (record { value = 1; next = 0 })
+  newer : Heads (record { value = 2; next = 2 })
+
+head-ends : (end : ℕ) (s : List ℕ) → Holds Heads (PlacedTo end) (headAt s)
+unfolding headAt editionAt
+head-ends end s =
+    let next : ℕ → Outcome Read = λ edition. accepted (record { value = edition; next = length (headerOf edition) }) in
+    cond-both (λ (o : Outcome ℕ). Holds Heads (PlacedTo end) (andThen o next)) (ltb 0 (length s) && eqb (getD s 0 0) 0) (need (ltb 1 (length s) && eqb (getD s 1 0) 2) 23 0 (accepted 2)) (accepted 1)
+    (λ _. two (ltb 1 (length s) && eqb (getD s 1 0) 2)) (λ _. old)
+  where
+    two : (b : Bool) → Holds Heads (PlacedTo end) (andThen (need b 23 0 (accepted 2)) (λ (edition : ℕ). accepted (record { value = edition; next = length (headerOf edition) })))
+    two true = newer
+    two false = (omega arith, omega arith)
+
+-- two bytes, and two more in a second edition file
+record OpensBy (o : Opened) : Type 0 where
+  few : o .count ≤ 256
+  near : o .next ≤ 4
+  first : (o .edition ≡ 2 → ⊥) → o .next ≤ 2
+
+opening-ends : (end : ℕ) (s : List ℕ) → 2 ≤ end → Holds OpensBy (PlacedTo end) (openingAt s)
+unfolding openingAt
+opening-ends end s e =
+    holds-then Heads OpensBy (PlacedTo end) (headAt s) _ (head-ends end s)
+    (λ h q.
+    holds-then (Counts (h .next)) OpensBy (PlacedTo end) (countAt s (h .next)) (λ count. accepted (record { edition = h .value; count = count .value; next = count .next })) (count-ends end s (h .next) (at-most h q))
+    (λ c w. opened h q c w))
+  where
+    at-most : (h : Read) → Heads h → h .next ≤ end
+    at-most _ old = omega arith
+    at-most _ newer = omega arith
+
+    opened : (h : Read) → Heads h → (c : Read) → Counts (h .next) c → OpensBy (record { edition = h .value; count = c .value; next = c .next })
+    opened _ old c w = record { few = w .0; near = omega (arith, w .1); first = λ n. omega (arith, w .1) }
+    opened _ newer c w = record { few = w .0; near = omega (arith, w .1); first = λ n. absurd (n refl) }
+
 -- they end by `end`, and no byte is left over
 abbrev pub Whole : List ℕ → ℕ → Unpacked → Type 0
 Whole s end u = (u .next ≤ end) × (length s ≤ u .next)
 
-all-end : (end : ℕ) (s : List ℕ) (at m : ℕ) → at + 46 * m ≤ end → Holds (Whole s end) (PlacedTo end) (allNodes m s at)
-unfolding allNodes
-all-end end s at m e =
-    holds-then (EndsBy (at + 46 * m)) (Whole s end) (PlacedTo end) (nodesAt m s at) (λ u. need (leb (length s) (u .next)) 22 (u .next) (accepted u)) (nodes-end end s at m e)
-    (λ u q. holds-need (Whole s end) (PlacedTo end) (leb (length s) (u .next)) 22 (u .next) (accepted u) (λ b. (omega arith, leb-true (length s) (u .next) b)) (omega arith, omega arith))
-
--- "256 nodes take at most 11778": two bytes, and 46 for each node
+-- "256 nodes take at most 11778": two bytes, and 46 for each node. A second edition file has two bytes more, and a new node, which takes 25 less.
 abbrev pub planLimit : ℕ
 planLimit = 11778
 
-pub plan-ends : (s : List ℕ) (room : ℕ) → Holds (Whole s planLimit) (PlacedTo planLimit) (unpack s room)
+-- as far as a file is read, also one that is refused
+abbrev pub placeLimit : ℕ
+placeLimit = 11780
+
+all-end : (s : List ℕ) (o : Opened) → OpensBy o → Holds (Whole s planLimit) (PlacedTo placeLimit) (allNodes (o .edition) (o .count) s (o .next))
+unfolding allNodes editionOf nodeCount
+all-end s o p =
+    let P : Unpacked → Type 0 = Whole s planLimit in
+    let Q : Refusal → Type 0 = PlacedTo placeLimit in
+    let at = o .next in
+    let m = o .count in
+    holds-then (NodesBy at m) P Q (nodesAt (o .edition) m s at) (λ u. need (leb (length s) (u .next)) 22 (u .next) (need (eqb (o .edition) (editionOf (u .words))) 26 0 (accepted u)))
+    (nodes-end placeLimit s (o .edition) at m (omega (arith, p .few, p .near)))
+    (λ u q.
+    holds-need P Q (leb (length s) (u .next)) 22 (u .next) (need (eqb (o .edition) (editionOf (u .words))) 26 0 (accepted u))
+    (λ b.
+    holds-need P Q (eqb (o .edition) (editionOf (u .words))) 26 0 (accepted u)
+    (λ own. (within o p u q (eqb-true (o .edition) (editionOf (u .words)) own), leb-true (length s) (u .next) b))
+    (omega arith, omega arith))
+    (omega arith, omega (arith, q .short, p .few, p .near)))
+  where
+    within : (o : Opened) → OpensBy o → (u : Unpacked) → NodesBy (o .next) (o .count) u → o .edition ≡ editionOf (u .words) → u .next ≤ planLimit
+    within o p u q e =
+        let nodes : length (u .words) / 17 ≡ o .count = omega (arith, q .long) in
+        let own : o .edition ≡ cond (noneNew (u .words) (o .count)) 1 2 = rw nodes at e in
+        bool-cases (noneNew (u .words) (o .count))
+        (λ b. let one : o .edition ≡ 1 = rw b at own in omega (arith, q .short, p .few, p .first (λ t. omega arith)))
+        (λ b. omega (arith, q .new b, p .few, p .near))
+
+pub plan-ends : (s : List ℕ) (room : ℕ) → Holds (Whole s planLimit) (PlacedTo placeLimit) (unpack s room)
 plan-ends s room =
-    let next : Read → Outcome Unpacked = λ count. need (leb (17 * count .value) room) 14 0 (allNodes (count .value) s (count .next)) in
+    let next : Opened → Outcome Unpacked = λ o. need (leb (17 * o .count) room) 14 0 (allNodes (o .edition) (o .count) s (o .next)) in
     rw (parts s room)
-    (holds-then Counts (Whole s planLimit) (PlacedTo planLimit) (countAt s) next (count-ends planLimit s)
+    (holds-then OpensBy (Whole s planLimit) (PlacedTo placeLimit) (openingAt s) next (opening-ends placeLimit s (omega arith))
     (λ c q.
-    holds-need (Whole s planLimit) (PlacedTo planLimit) (leb (17 * c .value) room) 14 0 (allNodes (c .value) s (c .next))
-    (λ _. all-end planLimit s (c .next) (c .value) (omega (arith, q .0, q .1))) (omega arith, omega arith)))
+    holds-need (Whole s planLimit) (PlacedTo placeLimit) (leb (17 * c .count) room) 14 0 (allNodes (c .edition) (c .count) s (c .next))
+    (λ _. all-end s c q) (omega arith, omega arith)))
 
 -- ---- the same first bytes
 
@@ -231,9 +350,26 @@ module _ (end : ℕ) {s t : List ℕ} (m : SameTo (end + 5) s t) where
   unfolding numberAt
   number-same at h = groups-same 5 at at (omega arith)
 
-  count-same : countAt s ≡ countAt t
+  count-same : (at : ℕ) → at ≤ end → countAt s at ≡ countAt t at
   unfolding countAt
-  count-same = rw (number-same 0 (omega arith)) refl
+  count-same at h = rw (number-same at h) refl
+
+  head-same : headAt s ≡ headAt t
+  unfolding headAt editionAt
+  head-same =
+      let one : ltb 0 (length s) ≡ ltb 0 (length t) = lt-ltb 0 (length s) (omega (arith, m .first)) ∙ sym (lt-ltb 0 (length t) (omega (arith, m .second))) in
+      let two : ltb 1 (length s) ≡ ltb 1 (length t) = lt-ltb 1 (length s) (omega (arith, m .first)) ∙ sym (lt-ltb 1 (length t) (omega (arith, m .second))) in
+      rw (one, two, m .same 0 (omega arith), m .same 1 (omega arith)) refl
+
+  opening-same : 2 ≤ end → openingAt s ≡ openingAt t
+  unfolding openingAt
+  opening-same e =
+      then-same Heads (PlacedTo end) (headAt s) _ _ (head-ends end s) head-same
+      (λ h q. rw (count-same (h .next) (at-most h q)) refl)
+    where
+      at-most : (h : Read) → Heads h → h .next ≤ end
+      at-most _ old = omega arith
+      at-most _ newer = omega arith
 
   word-same : (op k : ℕ) (u : Unpacked) → EndsBy end u → readWord op s k u ≡ readWord op t k u
   unfolding readWord
@@ -246,32 +382,32 @@ module _ (end : ℕ) {s t : List ℕ} (m : SameTo (end + 5) s t) where
       (λ k l. words-end end s op at h e k (omega arith))
       (λ k u l w. word-same op k u (omega (arith, few-used op k h (omega arith))))
 
-  node-same : (at : ℕ) → at + 46 ≤ end → readNode s at ≡ readNode t at
+  node-same : (edition at : ℕ) → at + 46 ≤ end → readNode edition s at ≡ readNode edition t at
   unfolding readNode
-  node-same at e =
+  node-same edition at e =
       then-same (NumberAt at) (PlacedTo end) (numberAt s at) _ _ (number-ends end s at (omega arith)) (number-same at (omega arith))
       (λ op q.
-      need-same (ltb (op .value) operationCount) 24 at
+      need-same (inFile edition (op .value)) 24 at
       (λ b.
-      let h : op .value < operationCount = ltb-true (op .value) operationCount b in
+      let h : op .value < operationCount = file-known edition (op .value) b in
       let one : op .next ≤ at + 1 = op-ends q h in
       words-same (op .value) (op .next) h (omega arith)))
 
-  nodes-same : (at n : ℕ) → at + 46 * n ≤ end → nodesAt n s at ≡ nodesAt n t at
+  nodes-same : (edition at n : ℕ) → at + 46 * n ≤ end → nodesAt edition n s at ≡ nodesAt edition n t at
   unfolding nodesAt addNode
-  nodes-same at n e =
-      turns-same (λ (n : ℕ). EndsBy (at + 46 * n)) (PlacedTo end) (addNode s) (addNode t) (record { words = []; next = at }) n (λ n l. nodes-end end s at n (omega arith))
-      (λ n u l h. rw (node-same (u .next) (omega arith)) refl)
+  nodes-same edition at n e =
+      turns-same (NodesBy at) (PlacedTo end) (addNode edition s) (addNode edition t) (record { words = []; next = at }) n (λ n l. nodes-end end s edition at n (omega arith))
+      (λ n u l h. rw (node-same edition (u .next) (omega (arith, h .short))) refl)
 
-  all-same : (at n : ℕ) → at + 46 * n ≤ end → allNodes n s at ≡ allNodes n t at
+  all-same : (edition at n : ℕ) → at + 46 * n ≤ end → allNodes edition n s at ≡ allNodes edition n t at
   unfolding allNodes
-  all-same at n e =
-      then-same (EndsBy (at + 46 * n)) (PlacedTo end) (nodesAt n s at) _ _ (nodes-end end s at n e) (nodes-same at n e)
-      (λ u h. rw (lt-leb (length s) (u .next) (omega (arith, m .first)), lt-leb (length t) (u .next) (omega (arith, m .second))) refl)
+  all-same edition at n e =
+      then-same (NodesBy at n) (PlacedTo end) (nodesAt edition n s at) _ _ (nodes-end end s edition at n e) (nodes-same edition at n e)
+      (λ u h. rw (lt-leb (length s) (u .next) (omega (arith, m .first, h .short)), lt-leb (length t) (u .next) (omega (arith, m .second, h .short))) refl)
 
 -- "so later bytes can't alter the answer"
-pub plan-same : {s t : List ℕ} → SameTo (planLimit + 5) s t → (room : ℕ) → unpack s room ≡ unpack t room
+pub plan-same : {s t : List ℕ} → SameTo (placeLimit + 5) s t → (room : ℕ) → unpack s room ≡ unpack t room
 plan-same {s} {t} m room =
     rw (parts s room, parts t room)
-    (then-same Counts (PlacedTo planLimit) (countAt s) _ _ (count-ends planLimit s) (count-same planLimit m)
-    (λ c q. need-same (leb (17 * c .value) room) 14 0 (λ _. all-same planLimit m (c .next) (c .value) (omega (arith, q .0, q .1)))))
+    (then-same OpensBy (PlacedTo placeLimit) (openingAt s) _ _ (opening-ends placeLimit s (omega arith)) (opening-same placeLimit m (omega arith))
+    (λ c q. need-same (leb (17 * c .count) room) 14 0 (λ _. all-same placeLimit m (c .edition) (c .next) (c .count) (omega (arith, q .few, q .near)))))

@@ -1,17 +1,18 @@
 -- Unpacking as the code does it: one law for each way through a function.
 use Prim.Native.Nat.{ℕ, _+_, _*_, _/_, _%_, _^_, _≤_, _<_}
-use mathlib.Core.Path.{_≡_, refl, ap, _∙_}
+use mathlib.Core.Path.{_≡_, refl, sym, ap, _∙_}
 use mathlib.Core.Bool.{Bool, true, false, _&&_, cond}
 use mathlib.Core.List.{List, [], _∷_, _++_}
 use native.Mathlib.Omega.{arith}
-use borrow.Author.Tests.{lt-ltb, le-ltb, le-leb, lt-leb}
-use lib.Dec.{leb, eqb}
+use borrow.Author.Tests.{lt-ltb, le-ltb, le-leb, lt-leb, eq-eqb, ne-eqb}
+use lib.Dec.{leb, ltb, eqb}
 use lib.ListN.{length, getD, set, take, drop}
 use lib.Seq.{sets, sets-eq, set-set, take-at}
 use lib.IntN.{ℤ, pos}
 use Rattle.plan.specs.declared.Answer.{Answer}
 use Rattle.plan.specs.Answers.{Outcome, accepted, refused, refuse, need, andThen, inTurn, written}
-use Rattle.plan.specs.Operations.{uses, masks}
+use Rattle.plan.specs.Operations.{uses, masks, inFile}
+use Rattle.plan.specs.Words.{nodeCount}
 use Rattle.plan.proofs.Masks.{mask-bit}
 use Rattle.codec.specs.declared.Number.{Number}
 use Rattle.codec.specs.declared.Number.the-variants.{Value, Broken}
@@ -19,11 +20,14 @@ use Rattle.codec.specs.declared.Step.{Step}
 use Rattle.codec.specs.declared.Step.the-variants.{Next, Stop}
 use Rattle.codec.specs.declared.Plan.the-variants.{Nodes, Stop as NoPlan}
 use Rattle.codec.specs.Numbers.{Read, numberAt, wordOf}
-use Rattle.codec.specs.Plans.{Unpacked, readWord, readNode, addNode, unpack, unpackAnswer, tableAfter}
-use Rattle.codec.specs.Steps.{numberOf, stepOf, planOf, Stands, Wrote, oneWord, nodeWords, nodesAt, countAt, allNodes}
+use Rattle.codec.specs.declared.Opening.{Opening}
+use Rattle.codec.specs.declared.Opening.the-variants.{Opens, Fails}
+use Rattle.codec.specs.Plans.{Unpacked, readWord, headerOf, editionAt, noneNew, editionOf, readNode, addNode, unpack, unpackAnswer, tableAfter}
+use Rattle.codec.specs.Steps.{numberOf, stepOf, planOf, openingOf, Stands, Wrote, oneWord, nodeWords, nodesAt, headAt, countAt, Opened, openingAt, allNodes}
 use Rattle.codec.proofs.Reading.{value-is, broken-is}
 use Rattle.codec.proofs.Storing.{sets-over, appended, SoFar, begun, next-is, stop-is, stopped, all-read}
-use Rattle.codec.proofs.Bounds.{words-long}
+use Rattle.codec.proofs.Bounds.{words-long, nodes-long}
+use Rattle.codec.proofs.Editions.{none-same, getD-front}
 
 -- ---- what a step of each loop adds
 
@@ -40,12 +44,12 @@ word-adds op s k {used} e u = rw (← e) (by used (numberAt s (u .next)))
     by true (refused r) = refl
     by false o = refl
 
-pub used-is : {used : Bool} {mask op k : ℕ} → mask ≡ getD masks op 0 → op < 21 → k < 16 → used ≡ eqb (mask / 2 ^ (k + 1) % 2) 1 → used ≡ uses op (k + 1)
-used-is {op = op} {k = k} e h l q = q ∙ rw e (mask-bit op (k + 1) h (omega arith))
+pub used-is : {used : Bool} {mask op k : ℕ} → mask ≡ getD masks op 0 → op < 24 → k < 16 → used ≡ eqb (mask / 2 ^ (k + 1) % 2) 1 → used ≡ uses op (k + 1)
+used-is {op = op} {k = k} e h l q = q ∙ rw e (mask-bit op (k + 1) (omega arith) (omega arith))
 
-pub node-adds : (s : List ℕ) (n : ℕ) (u : Unpacked) → addNode s n u ≡ appended u (readNode s (u .next))
+pub node-adds : (edition : ℕ) (s : List ℕ) (n : ℕ) (u : Unpacked) → addNode edition s n u ≡ appended u (readNode edition s (u .next))
 unfolding addNode
-node-adds s n u = refl
+node-adds edition s n u = refl
 
 -- ---- a word, a node
 
@@ -63,20 +67,18 @@ module _ (s : List ℕ) (at to : ℕ) (before : List ℤ) where
     unfolding oneWord stepOf Stands
     word-read b q h = rw (b, value-is (numberAt s at) e q, h) (record { answer = refl; table = refl })
 
-    pub node-broken : {n p : ℕ} → x ≡ Broken n p → Wrote (readNode s at) (Stop n p) before to before
+    pub node-broken : (edition : ℕ) {n p : ℕ} → x ≡ Broken n p → Wrote (readNode edition s at) (Stop n p) before to before
     unfolding readNode
-    node-broken q = stopped (rw (broken-is (numberAt s at) e q))
+    node-broken edition q = stopped (rw (broken-is (numberAt s at) e q))
 
-    module _ {op next : ℕ} (q : x ≡ Value op next) where
-      pub node-unknown : 20 < op → Wrote (readNode s at) (Stop 24 at) before to before
+    module _ (edition : ℕ) {op next : ℕ} {b : Bool} (q : x ≡ Value op next) (is : b ≡ inFile edition op) where
+      pub node-unknown : b ≡ false → Wrote (readNode edition s at) (Stop 24 at) before to before
       unfolding readNode
-      node-unknown h = let l : 21 ≤ op = omega arith in stopped (rw (value-is (numberAt s at) e q, le-ltb op 21 l))
+      node-unknown h = stopped (rw (value-is (numberAt s at) e q, ← is, h))
 
-      pub node-read : {r : Step} {after : List ℤ} → op ≤ 20 → Wrote (nodeWords op s next) r before to after → Wrote (readNode s at) r before to after
+      pub node-read : {r : Step} {after : List ℤ} → b ≡ true → Wrote (nodeWords op s next) r before to after → Wrote (readNode edition s at) r before to after
       unfolding readNode nodeWords
-      node-read h w = let l : op < 21 = omega arith in rw (value-is (numberAt s at) e q, lt-ltb op 21 l) w
-
-pub ruleset node-laws = (node-broken, node-unknown, node-read)
+      node-read h w = rw (value-is (numberAt s at) e q, ← is, h) w
 
 -- a node's words: the operation, and then a loop over the others
 module _ (op : ℕ) (s : List ℕ) (start : ℕ) (before : List ℤ) (to : ℕ) {v : ℤ} (is : v ≡ pos op) where
@@ -93,75 +95,165 @@ module _ (op : ℕ) (s : List ℕ) (start : ℕ) (before : List ℤ) (to : ℕ) 
 
 -- ---- the bytes after the nodes
 
-module _ (s : List ℕ) (at count : ℕ) {r : Step} {before after : List ℤ} (w : Wrote (nodesAt count s at) r before 0 after) where
-  pub nodes-stop : {n p : ℕ} → r ≡ Stop n p → Wrote (allNodes count s at) (Stop n p) before 0 after
-  unfolding allNodes
-  nodes-stop e = stopped (rw (stop-is (nodesAt count s at) (w .answer) e))
+-- a plan's own edition, found in a table that begins with its words
+own-edition : (count own : ℕ) (u before after : List ℤ) → after ≡ sets before 0 u → length u ≡ 17 * count → 17 * count ≤ length before → own ≡ cond (noneNew after count) 1 2 → editionOf u ≡ own
+unfolding editionOf nodeCount
+own-edition count own u before after stands long fits is =
+    let nodes : length u / 17 ≡ count = omega arith in
+    let same : noneNew after count ≡ noneNew u count = rw stands (none-same (sets before 0 u) u count (λ i h. getD-front u before (17 * i) (omega arith) (omega arith))) in
+    rw nodes (sym (is ∙ rw same refl))
 
-  pub left-over : {end : ℕ} → r ≡ Next end → end < length s → Wrote (allNodes count s at) (Stop 22 end) before 0 after
+module _ (edition : ℕ) (s : List ℕ) (at count : ℕ) {r : Step} {before after : List ℤ} (w : Wrote (nodesAt edition count s at) r before 0 after) where
+  pub nodes-stop : {n p : ℕ} → r ≡ Stop n p → Wrote (allNodes edition count s at) (Stop n p) before 0 after
+  unfolding allNodes
+  nodes-stop e = stopped (rw (stop-is (nodesAt edition count s at) (w .answer) e))
+
+  pub left-over : {end : ℕ} → r ≡ Next end → end < length s → Wrote (allNodes edition count s at) (Stop 22 end) before 0 after
   unfolding allNodes
   left-over {end} e h = let m = next-is w e in stopped (rw (m .read, m .next, lt-leb (length s) end h))
 
-  pub none-left : {end : ℕ} → r ≡ Next end → length s ≤ end → Wrote (allNodes count s at) (Next end) before 0 after
-  unfolding allNodes
-  none-left {end} e h = all-read (by (next-is w e))
-    where
-      by : SoFar (nodesAt count s at) end before 0 after → SoFar (allNodes count s at) end before 0 after
-      by m = record { found = m .found; read = rw (m .read, m .next, le-leb (length s) end h); next = m .next; stands = m .stands }
+  module _ {end own : ℕ} (e : r ≡ Next end) (h : length s ≤ end) (is : own ≡ cond (noneNew after count) 1 2) (fits : 17 * count ≤ length before) where
+    own-is : editionOf (next-is w e .found .words) ≡ own
+    own-is = let m = next-is w e in own-edition count own (m .found .words) before after (m .stands) (nodes-long edition s at count (m .read)) fits is
 
-pub ruleset end-laws = (nodes-stop, left-over, none-left)
+    pub other-edition : (own ≡ edition → ⊥) → Wrote (allNodes edition count s at) (Stop 26 0) before 0 after
+    unfolding allNodes
+    other-edition n = let m = next-is w e in stopped (rw (m .read, m .next, le-leb (length s) end h, own-is, ne-eqb edition own (λ q. n (sym q))))
+
+    pub none-left : own ≡ edition → Wrote (allNodes edition count s at) (Next end) before 0 after
+    unfolding allNodes
+    none-left q = all-read (by (next-is w e) own-is)
+      where
+        by : (m : SoFar (nodesAt edition count s at) end before 0 after) → editionOf (m .found .words) ≡ own → SoFar (allNodes edition count s at) end before 0 after
+        by m is = record { found = m .found; read = rw (m .read, m .next, le-leb (length s) end h, is, ← q, eq-eqb own own refl); next = m .next; stands = m .stands }
+
+pub ruleset end-laws = (nodes-stop, left-over)
+
+-- ---- the edition
+
+module _ (s : List ℕ) where
+  pub head-empty : length s < 1 → Value 1 0 ≡ numberOf (headAt s)
+  unfolding headAt editionAt numberOf
+  head-empty h = let l : length s ≤ 0 = omega arith in rw (le-ltb 0 (length s) l) refl
+
+  module _ (some : 1 ≤ length s) where
+    has : ltb 0 (length s) ≡ true
+    has = lt-ltb 0 (length s) some
+
+    pub head-first : (getD s 0 0 ≡ 0 → ⊥) → Value 1 0 ≡ numberOf (headAt s)
+    unfolding headAt editionAt numberOf
+    head-first n = rw (has, ne-eqb (getD s 0 0) 0 n) refl
+
+    module _ (z : getD s 0 0 ≡ 0) where
+      pub head-short : length s < 2 → Broken 23 0 ≡ numberOf (headAt s)
+      unfolding headAt editionAt numberOf
+      head-short h = let l : length s ≤ 1 = omega arith in rw (has, z, le-ltb 1 (length s) l) refl
+
+      pub head-other : 2 ≤ length s → (getD s 1 0 ≡ 2 → ⊥) → Broken 23 0 ≡ numberOf (headAt s)
+      unfolding headAt editionAt numberOf
+      head-other h n = rw (has, z, lt-ltb 1 (length s) h, ne-eqb (getD s 1 0) 2 n) refl
+
+      pub head-second : 2 ≤ length s → getD s 1 0 ≡ 2 → Value 2 2 ≡ numberOf (headAt s)
+      unfolding headAt editionAt numberOf
+      head-second h t = rw (has, z, lt-ltb 1 (length s) h, t) refl
+
+pub ruleset head-laws = (head-empty, head-first, head-short, head-other, head-second)
 
 -- ---- the count
 
-module _ (s : List ℕ) {x : Number} (e : x ≡ numberOf (numberAt s 0)) where
-  pub count-broken : {n p : ℕ} → x ≡ Broken n p → Broken n p ≡ numberOf (countAt s)
+module _ (s : List ℕ) (at : ℕ) {x : Number} (e : x ≡ numberOf (numberAt s at)) where
+  pub count-broken : {n p : ℕ} → x ≡ Broken n p → Broken n p ≡ numberOf (countAt s at)
   unfolding countAt numberOf
-  count-broken q = rw (broken-is (numberAt s 0) e q)
+  count-broken q = rw (broken-is (numberAt s at) e q)
 
   module _ {v next : ℕ} (q : x ≡ Value v next) where
-    pub count-none : v < 1 → Broken 23 0 ≡ numberOf (countAt s)
+    pub count-none : v < 1 → Broken 23 0 ≡ numberOf (countAt s at)
     unfolding countAt numberOf
-    count-none h = rw (value-is (numberAt s 0) e q, lt-leb 1 v h)
+    count-none h = rw (value-is (numberAt s at) e q, lt-leb 1 v h)
 
-    pub count-over : 1 ≤ v → 256 < v → Broken 23 0 ≡ numberOf (countAt s)
+    pub count-over : 1 ≤ v → 256 < v → Broken 23 0 ≡ numberOf (countAt s at)
     unfolding countAt numberOf
-    count-over l h = rw (value-is (numberAt s 0) e q, le-leb 1 v l, lt-leb v 256 h)
+    count-over l h = rw (value-is (numberAt s at) e q, le-leb 1 v l, lt-leb v 256 h)
 
-    pub count-read : 1 ≤ v → v ≤ 256 → Value v next ≡ numberOf (countAt s)
+    pub count-read : 1 ≤ v → v ≤ 256 → Value v next ≡ numberOf (countAt s at)
     unfolding countAt numberOf
-    count-read l h = rw (value-is (numberAt s 0) e q, le-leb 1 v l, le-leb v 256 h)
+    count-read l h = rw (value-is (numberAt s at) e q, le-leb 1 v l, le-leb v 256 h)
 
 pub ruleset count-laws = (count-broken, count-none, count-over, count-read)
 
+-- ---- the opening
+
+module _ (s : List ℕ) {x : Number} (e : x ≡ numberOf (headAt s)) where
+  pub open-unnamed : {n p : ℕ} → x ≡ Broken n p → Fails n p ≡ openingOf (openingAt s)
+  unfolding openingAt openingOf
+  open-unnamed q = rw (broken-is (headAt s) e q)
+
+  module _ {edition start : ℕ} (q : x ≡ Value edition start) {y : Number} (f : y ≡ numberOf (countAt s start)) where
+    pub open-broken : {n p : ℕ} → y ≡ Broken n p → Fails n p ≡ openingOf (openingAt s)
+    unfolding openingAt openingOf
+    open-broken w = rw (value-is (headAt s) e q, broken-is (countAt s start) f w)
+
+    pub open-read : {count next : ℕ} → y ≡ Value count next → Opens edition count next ≡ openingOf (openingAt s)
+    unfolding openingAt openingOf
+    open-read w = rw (value-is (headAt s) e q, value-is (countAt s start) f w)
+
+pub ruleset open-laws = (open-unnamed, open-broken, open-read)
+
+-- the outcome behind it
+module _ {r : Opening} where
+  pub opens-is : (o : Outcome Opened) {edition count next : ℕ} → r ≡ openingOf o → r ≡ Opens edition count next → o ≡ accepted (record { edition = edition; count = count; next = next })
+  unfolding openingOf
+  opens-is (accepted a) {edition} {count} {next} q e =
+      let one : a .edition ≡ edition = cc in
+      let two : a .count ≡ count = cc in
+      let three : a .next ≡ next = cc in
+      rw (← one, ← two, ← three)
+  opens-is (refused s) q e = let z : _≡_ {A = ℕ} 0 1 = cc in absurd (omega arith)
+
+  pub fails-is : (o : Outcome Opened) {n p : ℕ} → r ≡ openingOf o → r ≡ Fails n p → o ≡ refuse n p
+  unfolding openingOf
+  fails-is (refused s) {n} {p} q e = let a : s .number ≡ n = cc in let b : s .place ≡ p = cc in rw (← a, ← b)
+  fails-is (accepted a) q e = let z : _≡_ {A = ℕ} 0 1 = cc in absurd (omega arith)
+
 -- ---- the whole
 
--- unpacking is the count, the room, and all nodes
-pub parts : (s : List ℕ) (room : ℕ) → unpack s room ≡ andThen (countAt s) (λ count. need (leb (17 * count .value) room) 14 0 (allNodes (count .value) s (count .next)))
-unfolding unpack countAt allNodes nodesAt
-parts s room = by (numberAt s 0)
+-- unpacking is the opening, the room, and all nodes
+pub parts : (s : List ℕ) (room : ℕ) → unpack s room ≡ andThen (openingAt s) (λ o. need (leb (17 * o .count) room) 14 0 (allNodes (o .edition) (o .count) s (o .next)))
+unfolding unpack headAt countAt openingAt allNodes nodesAt
+parts s room = first (editionAt s)
   where
-    room-then : Read → Outcome Unpacked
-    room-then = λ count. need (leb (17 * count .value) room) 14 0 (allNodes (count .value) s (count .next))
+    room-then : Opened → Outcome Unpacked
+    room-then = λ o. need (leb (17 * o .count) room) 14 0 (allNodes (o .edition) (o .count) s (o .next))
 
-    tested : (b : Bool) (count : Read) → need b 23 0 (room-then count) ≡ andThen (need b 23 0 (accepted count)) room-then
-    tested true count = refl
-    tested false count = refl
+    opened : ℕ → Read → Opened
+    opened edition count = record { edition = edition; count = count .value; next = count .next }
 
-    by : (o : Outcome Read)
-        → andThen o (λ count. need (leb 1 (count .value) && leb (count .value) 256) 23 0 (room-then count))
-        ≡ andThen (andThen o (λ count. need (leb 1 (count .value) && leb (count .value) 256) 23 0 (accepted count))) room-then
-    by (accepted count) = tested (leb 1 (count .value) && leb (count .value) 256) count
-    by (refused r) = refl
+    tested : (b : Bool) (edition : ℕ) (count : Read)
+        → need b 23 0 (room-then (opened edition count)) ≡ andThen (andThen (need b 23 0 (accepted count)) (λ (c : Read). accepted (opened edition c))) room-then
+    tested true edition count = refl
+    tested false edition count = refl
+
+    by : (edition : ℕ) (o : Outcome Read)
+        → andThen o (λ (count : Read). need (leb 1 (count .value) && leb (count .value) 256) 23 0 (room-then (opened edition count)))
+        ≡ andThen (andThen (andThen o (λ (count : Read). need (leb 1 (count .value) && leb (count .value) 256) 23 0 (accepted count))) (λ (c : Read). accepted (opened edition c))) room-then
+    by edition (accepted count) = tested (leb 1 (count .value) && leb (count .value) 256) edition count
+    by edition (refused r) = refl
+
+    first : (o : Outcome ℕ)
+        → andThen o (λ (edition : ℕ). andThen (numberAt s (length (headerOf edition))) (λ (count : Read). need (leb 1 (count .value) && leb (count .value) 256) 23 0 (room-then (opened edition count))))
+        ≡ andThen (andThen (andThen o (λ (edition : ℕ). accepted (record { value = edition; next = length (headerOf edition) }))) (λ (head : Read). andThen (andThen (numberAt s (head .next)) (λ (count : Read). need (leb 1 (count .value) && leb (count .value) 256) 23 0 (accepted count))) (λ (count : Read). accepted (opened (head .value) count)))) room-then
+    first (accepted edition) = by edition (numberAt s (length (headerOf edition)))
+    first (refused r) = refl
 
 module _ (s : List ℕ) (room : ℕ) where
-  pub no-count : {n p : ℕ} → countAt s ≡ refuse n p → unpack s room ≡ refuse n p
+  pub no-count : {n p : ℕ} → openingAt s ≡ refuse n p → unpack s room ≡ refuse n p
   no-count e = parts s room ∙ rw e
 
-  module _ {v next : ℕ} (e : countAt s ≡ accepted (record { value = v; next = next })) where
+  module _ {edition v next : ℕ} (e : openingAt s ≡ accepted (record { edition = edition; count = v; next = next })) where
     pub no-room : room < 17 * v → unpack s room ≡ refuse 14 0
     no-room h = parts s room ∙ rw (e, lt-leb (17 * v) room h)
 
-    pub after-count : 17 * v ≤ room → unpack s room ≡ allNodes v s next
+    pub after-count : 17 * v ≤ room → unpack s room ≡ allNodes edition v s next
     after-count h = parts s room ∙ rw (e, le-leb (17 * v) room h)
 
 -- the answers, by the outcome

@@ -1,11 +1,13 @@
 // Packed plans: the seven-bit reader and unpack.
 ghost use mathlib.Core.Path.{_≡_};
+ghost use mathlib.Core.Bool.{cond};
 ghost use mathlib.Core.List.{_++_};
 ghost use Prim.Native.Nat.{_+_, _*_, _≤_, _<_};
 ghost use lib.ListN.{length, take, drop};
 ghost use Rattle.codec.specs.Numbers.{numberAt, wordOf};
-ghost use Rattle.codec.specs.Plans.{readNode, unpack, unpackAnswer, tableAfter};
-ghost use Rattle.codec.specs.Steps.{numberOf, stepOf, planOf, Stands, Wrote, oneWord, nodeWords, nodesAt, countAt, allNodes};
+ghost use Rattle.plan.specs.Operations.{operationCount, isNew, inFile};
+ghost use Rattle.codec.specs.Plans.{noneNew, readNode, unpack, unpackAnswer, tableAfter};
+ghost use Rattle.codec.specs.Steps.{numberOf, stepOf, planOf, openingOf, Stands, Wrote, oneWord, nodeWords, nodesAt, headAt, countAt, openingAt, allNodes};
 
 // What reading a packed number finds: the number and the position after it, or a refusal and its place.
 pub enum Number {
@@ -23,6 +25,12 @@ pub enum Step {
 pub enum Plan {
     Nodes(usize),
     Stop(usize, usize),
+}
+
+// What a file begins with: its edition, its node count and the position after them, or a refusal and its place.
+pub enum Opening {
+    Opens(usize, usize, usize),
+    Fails(usize, usize),
 }
 
 // The number whose first byte is at `from`, group by group.
@@ -102,7 +110,7 @@ fn word(s: &[u8], at: usize, used: bool, tab: &mut [i64], to: usize) -> Step
 
 // A node into the table from `to` on: its operation, which is read, and then each of its other words.
 fn words(s: &[u8], start: usize, op: usize, tab: &mut [i64], to: usize) -> Step
-    requires { ⌜ (op < 21) × (to + 17 ≤ length (now tab)) ⌝ }
+    requires { ⌜ (op < operationCount) × (to + 17 ≤ length (now tab)) ⌝ }
     ensures { λ r. ⌜ Wrote (nodeWords op (now (s .entry)) start) r (now (tab .entry)) to (now (tab .exit)) ⌝ }
 {
     let mask = plan::used_mask(op);
@@ -124,15 +132,29 @@ fn words(s: &[u8], start: usize, op: usize, tab: &mut [i64], to: usize) -> Step
     Step::Next(at)
 }
 
+// An operation of the second edition.
+fn is_new(op: usize) -> bool
+    ensures { λ r. ⌜ r ≡ isNew op ⌝ }
+{
+    (op == 21) | ((op == 22) | (op == 23))
+}
+
+// An operation of a file of that edition.
+fn in_file(edition: usize, op: usize) -> bool
+    ensures { λ r. ⌜ r ≡ inFile edition op ⌝ }
+{
+    plan::is_operation(op) & ((edition == 2) | !is_new(op))
+}
+
 // A node into the table from `to` on.
-fn node(s: &[u8], at: usize, tab: &mut [i64], to: usize) -> Step
+fn node(s: &[u8], edition: usize, at: usize, tab: &mut [i64], to: usize) -> Step
     requires { ⌜ to + 17 ≤ length (now tab) ⌝ }
-    ensures { λ r. ⌜ Wrote (readNode (now (s .entry)) at) r (now (tab .entry)) to (now (tab .exit)) ⌝ }
+    ensures { λ r. ⌜ Wrote (readNode edition (now (s .entry)) at) r (now (tab .entry)) to (now (tab .exit)) ⌝ }
 {
     match number_at(s, at) {
         Number::Broken(number, place) => Step::Stop(number, place),
         Number::Value(op, next) => {
-            if 20 < op {
+            if !in_file(edition, op) {
                 return Step::Stop(24, at);
             }
             words(s, next, op, tab, to)
@@ -141,14 +163,14 @@ fn node(s: &[u8], at: usize, tab: &mut [i64], to: usize) -> Step
 }
 
 // The first `count` nodes into the table.
-fn nodes(s: &[u8], start: usize, count: usize, tab: &mut [i64]) -> Step
+fn nodes(s: &[u8], edition: usize, start: usize, count: usize, tab: &mut [i64]) -> Step
     requires { ⌜ 17 * count ≤ length (now tab) ⌝ }
-    ensures { λ r. ⌜ Wrote (nodesAt count (now (s .entry)) start) r (now (tab .entry)) 0 (now (tab .exit)) ⌝ }
+    ensures { λ r. ⌜ Wrote (nodesAt edition count (now (s .entry)) start) r (now (tab .entry)) 0 (now (tab .exit)) ⌝ }
 {
     let mut at = start;
     let mut n = 0;
     while n < count {
-        match node(s, at, tab, 17 * n) {
+        match node(s, edition, at, tab, 17 * n) {
             Step::Stop(number, place) => {
                 return Step::Stop(number, place);
             }
@@ -161,27 +183,65 @@ fn nodes(s: &[u8], start: usize, count: usize, tab: &mut [i64]) -> Step
     Step::Next(at)
 }
 
-// All nodes into the table, with no byte left over.
-fn all_nodes(s: &[u8], start: usize, count: usize, tab: &mut [i64]) -> Step
+// The edition of a table's first `count` nodes: 2 where one of them is new.
+pub fn edition_of(tab: &[i64], count: usize) -> usize
     requires { ⌜ 17 * count ≤ length (now tab) ⌝ }
-    ensures { λ r. ⌜ Wrote (allNodes count (now (s .entry)) start) r (now (tab .entry)) 0 (now (tab .exit)) ⌝ }
+    ensures { λ r. ⌜ r ≡ cond (noneNew (now (tab .entry)) count) 1 2 ⌝ }
 {
-    match nodes(s, start, count, tab) {
+    let mut i = 0;
+    while i < count {
+        let w = tab[17 * i];
+        if is_new(plan::size_of_word(w)) {
+            return 2;
+        }
+        i += 1;
+    }
+    1
+}
+
+// All nodes into the table, with no byte left over, of the plan's own edition.
+fn all_nodes(s: &[u8], edition: usize, start: usize, count: usize, tab: &mut [i64]) -> Step
+    requires { ⌜ 17 * count ≤ length (now tab) ⌝ }
+    ensures { λ r. ⌜ Wrote (allNodes edition count (now (s .entry)) start) r (now (tab .entry)) 0 (now (tab .exit)) ⌝ }
+{
+    match nodes(s, edition, start, count, tab) {
         Step::Stop(number, place) => Step::Stop(number, place),
         Step::Next(end) => {
             if end < s.len() {
                 return Step::Stop(22, end);
+            }
+            if edition_of(tab, count) != edition {
+                return Step::Stop(26, 0);
             }
             Step::Next(end)
         }
     }
 }
 
-// The node count at the head of a plan.
-fn count_at(s: &[u8]) -> Number
-    ensures { λ r. ⌜ r ≡ numberOf (countAt (now (s .entry))) ⌝ }
+// The edition at the head of a file.
+fn edition_at(s: &[u8]) -> Number
+    ensures { λ r. ⌜ r ≡ numberOf (headAt (now (s .entry))) ⌝ }
 {
-    match number_at(s, 0) {
+    if s.len() < 1 {
+        return Number::Value(1, 0);
+    }
+    if s[0] != 0 {
+        return Number::Value(1, 0);
+    }
+    if s.len() < 2 {
+        return Number::Broken(23, 0);
+    }
+    if s[1] != 2 {
+        return Number::Broken(23, 0);
+    }
+    Number::Value(2, 2)
+}
+
+// The node count.
+fn count_at(s: &[u8], at: usize) -> Number
+    ensures { λ r. ⌜ r ≡ numberOf (countAt (now (s .entry)) at) ⌝ }
+{
+    match number_at(s, at) {
         Number::Broken(number, place) => Number::Broken(number, place),
         Number::Value(count, next) => {
             if count < 1 {
@@ -195,14 +255,33 @@ fn count_at(s: &[u8]) -> Number
     }
 }
 
+// What a file begins with.
+fn opening_at(s: &[u8]) -> Opening
+    ensures { λ r. ⌜ r ≡ openingOf (openingAt (now (s .entry))) ⌝ }
+{
+    match edition_at(s) {
+        Number::Broken(number, place) => Opening::Fails(number, place),
+        Number::Value(edition, start) => match count_at(s, start) {
+            Number::Broken(number, place) => Opening::Fails(number, place),
+            Number::Value(count, next) => Opening::Opens(edition, count, next),
+        },
+    }
+}
+
 // A plan into a table that has room for every plan. Where the plan is refused, what the table holds is not said.
 pub fn read_plan(bytes: &[u8], table: &mut [i64]) -> Plan
     requires { ⌜ 4352 ≤ length (now table) ⌝ }
     ensures { λ r. ⌜ (r ≡ planOf (unpack (now (bytes .entry)) 4352)) × Stands (unpack (now (bytes .entry)) 4352) (now (table .entry)) 0 (now (table .exit)) ⌝ }
 {
-    match count_at(bytes) {
-        Number::Broken(number, place) => Plan::Stop(number, place),
-        Number::Value(count, next) => match all_nodes(bytes, next, count, table) {
+    match opening_at(bytes) {
+        Opening::Fails(number, place) => Plan::Stop(number, place),
+        Opening::Opens(edition, count, next) => match all_nodes(
+            bytes,
+            edition,
+            next,
+            count,
+            table,
+        ) {
             Step::Stop(number, place) => Plan::Stop(number, place),
             Step::Next(end) => Plan::Nodes(count),
         },
@@ -222,11 +301,18 @@ fn copy(from: &[i64], to: &mut [i64], n: usize)
 }
 
 // All nodes into `local`, and from there into the table, which stays as it was where they are refused.
-fn nodes_into(s: &[u8], start: usize, count: usize, local: &mut [i64], table: &mut [i64]) -> Step
+fn nodes_into(
+    s: &[u8],
+    edition: usize,
+    start: usize,
+    count: usize,
+    local: &mut [i64],
+    table: &mut [i64],
+) -> Step
     requires { ⌜ (17 * count ≤ length (now local)) × (17 * count ≤ length (now table)) ⌝ }
-    ensures { λ r. ⌜ (r ≡ stepOf (allNodes count (now (s .entry)) start)) × (now (table .exit) ≡ tableAfter (allNodes count (now (s .entry)) start) (now (table .entry))) ⌝ }
+    ensures { λ r. ⌜ (r ≡ stepOf (allNodes edition count (now (s .entry)) start)) × (now (table .exit) ≡ tableAfter (allNodes edition count (now (s .entry)) start) (now (table .entry))) ⌝ }
 {
-    match all_nodes(s, start, count, local) {
+    match all_nodes(s, edition, start, count, local) {
         Step::Stop(number, place) => Step::Stop(number, place),
         Step::Next(end) => {
             copy(local, table, 17 * count);
@@ -239,14 +325,14 @@ fn nodes_into(s: &[u8], start: usize, count: usize, local: &mut [i64], table: &m
 pub fn unpack(bytes: &[u8], table: &mut [i64]) -> plan::Answer
     ensures { λ r. ⌜ (r ≡ unpackAnswer (unpack (now (bytes .entry)) (length (now (table .entry))))) × (now (table .exit) ≡ tableAfter (unpack (now (bytes .entry)) (length (now (table .entry)))) (now (table .entry))) ⌝ }
 {
-    match count_at(bytes) {
-        Number::Broken(number, place) => plan::refused(number as u64, place as u64),
-        Number::Value(count, next) => {
+    match opening_at(bytes) {
+        Opening::Fails(number, place) => plan::refused(number as u64, place as u64),
+        Opening::Opens(edition, count, next) => {
             if table.len() < 17 * count {
                 return plan::refused(14, 0);
             }
             let mut local = [0i64; 4352];
-            match nodes_into(bytes, next, count, &mut local, table) {
+            match nodes_into(bytes, edition, next, count, &mut local, table) {
                 Step::Stop(number, place) => plan::refused(number as u64, place as u64),
                 Step::Next(end) => plan::accepted(count as u64),
             }

@@ -1,37 +1,52 @@
 -- What the check has found of a node, for each group of operations.
 use Prim.Native.Nat.{ℕ, _≤_, _<_}
-use mathlib.Core.Path.{_≡_, refl, sym, ap}
+use mathlib.Core.Path.{_≡_, refl, sym, ap, _∙_}
 use mathlib.Core.Bool.{Bool, true, false, _&&_, _||_, false≢true}
-use mathlib.Core.List.{List, []}
+use mathlib.Core.List.{List, [], _∷_}
 use native.Mathlib.Omega.{arith}
-use borrow.Author.Tests.{eqb-true, eqb-false, ne-eqb, ltb-true, leb-true, le-ltb}
+use borrow.Author.Tests.{eqb-true, eqb-false, ne-eqb, ltb-true, leb-true, le-ltb, lt-leb}
 use lib.Dec.{eqb, leb, ltb}
+use lib.ListN.{length}
 use Rattle.laws.specs.Lists.{allBelow, among}
 use Rattle.laws.specs.Numbering.{count}
 use Rattle.laws.proofs.Booleans.{bool-cases, and-true, all-below}
 use Rattle.plan.specs.declared.Node.{Node}
-use Rattle.plan.specs.Operations.{CONST, PERMUTE, FLIP, RESHAPE, EXPAND, PAD, SHRINK, CAST, WHERE, REDUCE, LOAD, followed, binaries, uses, operationCount, byOperation}
-use Rattle.plan.specs.Words.{listOf}
-use Rattle.plan.proofs.ByOperation.{_then_, for-group}
+use Rattle.plan.specs.Operations.{CONST, PERMUTE, FLIP, RESHAPE, EXPAND, PAD, SHRINK, CAST, WHERE, REDUCE, LOAD, FILL, KNOWN, STACK, newOperations, followed, binaries, uses, isNew, isOperation, operationCount, byOperation}
+use Rattle.plan.specs.Words.{listOf, reads}
+use Rattle.plan.proofs.ByOperation.{_then_, for-group, only, operation-small, reads-low, reads-plain}
 use Rattle.shapes.specs.Rows.{extentsOf}
 use Rattle.shapes.specs.Rules.{shapeRules, shapesAgree, resultRules, resultExtents}
-use Rattle.shapes.proofs.Broadcast.{Spreads, binary-spreads, where-spreads}
-use Rattle.shapes.proofs.Extents.{positive-none}
+use Rattle.shapes.proofs.Broadcast.{Spreads, binary-spreads, where-spreads, fill-spreads}
+use Rattle.shapes.proofs.Extents.{positive-none, some-element}
+use Rattle.shapes.proofs.Stacking.{stack-extents, stack-second, stack-third}
+use Rattle.rules.proofs.RowRule.{stack-rule}
 use Rattle.walking.specs.Movements.{viewed, Viewed}
-use Rattle.evaluation.specs.Standing.{copied, moves, Padded, Reduced}
+use Rattle.evaluation.specs.Standing.{copied, moves, Padded, Reduced, Stacked}
 use Rattle.evaluation.specs.Ready.{Proper, Right}
 
 -- ---- the groups by number
 
 -- what is left of the operations
-others : allBelow operationCount (λ (op : ℕ). eqb op 0 || (eqb op 1 || (eqb op 19 || ((leb 9 op && ltb op 19) || among op moves)))) ≡ true
+others : allBelow operationCount (λ (op : ℕ). eqb op 0 || (eqb op 1 || (eqb op 19 || ((leb 9 op && ltb op 19) || (leb 21 op || among op moves))))) ≡ true
 unfolding allBelow among
 others = refl
 
-pub rest-moves : (op : ℕ) → op < operationCount → (op ≡ 0 → ⊥) → (op ≡ 1 → ⊥) → (op ≡ 19 → ⊥) → (leb 9 op && ltb op 19) ≡ false → among op moves ≡ true
-rest-moves op h a b c d =
-    let all = all-below operationCount (λ (op : ℕ). eqb op 0 || (eqb op 1 || (eqb op 19 || ((leb 9 op && ltb op 19) || among op moves)))) others op h in
-    rw (ne-eqb op 0 a, ne-eqb op 1 b, ne-eqb op 19 c, d) at all
+pub rest-moves : (op : ℕ) → isOperation op ≡ true → (op ≡ 0 → ⊥) → (op ≡ 1 → ⊥) → (op ≡ 19 → ⊥) → (leb 9 op && ltb op 19) ≡ false → op < 21 → among op moves ≡ true
+rest-moves op h a b c d e =
+    let all = all-below operationCount (λ (op : ℕ). eqb op 0 || (eqb op 1 || (eqb op 19 || ((leb 9 op && ltb op 19) || (leb 21 op || among op moves))))) others op (operation-small op h) in
+    rw (ne-eqb op 0 a, ne-eqb op 1 b, ne-eqb op 19 c, d, lt-leb 21 op e) at all
+
+-- the operations of the second edition
+newer : allBelow operationCount (λ (op : ℕ). ltb op 21 || isNew op) ≡ true
+unfolding allBelow isNew among
+newer = refl
+
+pub rest-new : (op : ℕ) → isOperation op ≡ true → 21 ≤ op → isNew op ≡ true
+rest-new op h l = rw (le-ltb op 21 l) at (all-below operationCount (λ (op : ℕ). ltb op 21 || isNew op) newer op (operation-small op h))
+
+pub new-stack : (op : ℕ) → isNew op ≡ true → (op ≡ FILL → ⊥) → (op ≡ KNOWN → ⊥) → op ≡ STACK
+unfolding isNew among
+new-stack op h a b = only op STACK (rw (ne-eqb op FILL a, ne-eqb op KNOWN b) at h)
 
 -- the binary operations, and WHERE after them
 pub mixed-range : (op : ℕ) → (leb 9 op && ltb op 19) ≡ true → (9 ≤ op) × (op < 19)
@@ -45,7 +60,7 @@ pub range-binaries : (op : ℕ) → 9 ≤ op → op < 19 → (op ≡ WHERE → �
 range-binaries op low high n = rw (le-ltb op 9 low) at (all-below 18 (λ (op : ℕ). ltb op 9 || among op binaries) between op (omega arith))
 
 -- the sources that a group uses
-pub moves-use : (op : ℕ) → among op moves ≡ true → uses op 1 ≡ true
+moves-use : (op : ℕ) → among op moves ≡ true → uses op 1 ≡ true
 unfolding uses among
 moves-use op h = for-group (λ (op : ℕ). uses op 1 ≡ true) op moves (refl then refl then refl then refl then refl then refl then refl then refl then tt) h
 
@@ -53,17 +68,56 @@ mixed-using : allBelow 19 (λ (op : ℕ). ltb op 9 || (uses op 1 && uses op 2)) 
 unfolding allBelow uses among
 mixed-using = refl
 
-pub mixed-uses : (op : ℕ) → 9 ≤ op → op < 19 → (uses op 1 ≡ true) × (uses op 2 ≡ true)
+mixed-uses : (op : ℕ) → 9 ≤ op → op < 19 → (uses op 1 ≡ true) × (uses op 2 ≡ true)
 mixed-uses op low high =
     and-true (uses op 1) (uses op 2) (rw (le-ltb op 9 low) at (all-below 19 (λ (op : ℕ). ltb op 9 || (uses op 1 && uses op 2)) mixed-using op high))
 
-pub where-uses : (op : ℕ) → op ≡ WHERE → uses op 3 ≡ true
+where-uses : (op : ℕ) → op ≡ WHERE → uses op 3 ≡ true
 unfolding uses among
 where-uses op q = rw q refl
 
-pub reduce-uses : (op : ℕ) → op ≡ REDUCE → uses op 1 ≡ true
+reduce-uses : (op : ℕ) → op ≡ REDUCE → uses op 1 ≡ true
 unfolding uses among
 reduce-uses op q = rw q refl
+
+new-uses : (op : ℕ) → isNew op ≡ true → uses op 1 ≡ true
+unfolding uses isNew among
+new-uses op h = for-group (λ (op : ℕ). uses op 1 ≡ true) op newOperations (refl then refl then refl then tt) h
+
+two-use : (op : ℕ) → among op (FILL ∷ STACK ∷ []) ≡ true → uses op 2 ≡ true
+unfolding uses among
+two-use op h = for-group (λ (op : ℕ). uses op 2 ≡ true) op (FILL ∷ STACK ∷ []) (refl then refl then tt) h
+
+-- and so reads: only a STACK may have a word that it uses and does not read, its third source
+module _ (x : Node) where
+  first-read : uses (x .op) 1 ≡ true → reads x 1 ≡ true
+  first-read u = rw (reads-low x 1 (λ q. omega arith)) u
+
+  second-read : uses (x .op) 2 ≡ true → reads x 2 ≡ true
+  second-read u = rw (reads-low x 2 (λ q. omega arith)) u
+
+  pub moves-read : among (x .op) moves ≡ true → reads x 1 ≡ true
+  moves-read h = first-read (moves-use (x .op) h)
+
+  pub mixed-reads : 9 ≤ x .op → x .op < 19 → (reads x 1 ≡ true) × (reads x 2 ≡ true)
+  mixed-reads low high = let u = mixed-uses (x .op) low high in (first-read (u .0), second-read (u .1))
+
+  pub where-reads : x .op ≡ WHERE → reads x 3 ≡ true
+  where-reads q = rw (reads-plain x 3 (λ w. omega arith)) (where-uses (x .op) q)
+
+  pub reduce-reads : x .op ≡ REDUCE → reads x 1 ≡ true
+  reduce-reads q = first-read (reduce-uses (x .op) q)
+
+  pub new-reads : isNew (x .op) ≡ true → reads x 1 ≡ true
+  new-reads h = first-read (new-uses (x .op) h)
+
+  pub fill-reads : x .op ≡ FILL → reads x 2 ≡ true
+  unfolding among
+  fill-reads q = second-read (two-use (x .op) (rw q refl))
+
+  pub stack-two : x .op ≡ STACK → reads x 2 ≡ true
+  unfolding among
+  stack-two q = second-read (two-use (x .op) (rw q refl))
 
 -- what is left of the operations that a lookup follows back
 pub followed-viewed : (op : ℕ) → among op followed ≡ true → (op ≡ 6 → ⊥) → (eqb op 4 || eqb op 20) ≡ false → among op viewed ≡ true
@@ -148,7 +202,7 @@ module _ (x : Node) (s t u r : List ℕ) (right : Right x s t u r) where
   move-agrees : among (x .op) moves ≡ true → shapesAgree x s [] [] ≡ true
   unfolding shapesAgree among
   move-agrees h =
-      let by : (op : ℕ) → x .op ≡ op → byOperation op (shapeRules x s t u) false ≡ true = λ op q. rw q at (right .shapes) in
+      let by : (op : ℕ) → x .op ≡ op → byOperation op (shapeRules x s t u) false ≡ true = λ op q. ap (λ (k : ℕ). byOperation k (shapeRules x s t u) false) (sym q) ∙ right .shapes in
       for-group (λ (op : ℕ). x .op ≡ op → byOperation op (shapeRules x s [] []) false ≡ true) (x .op) moves
       (by CAST then by PERMUTE then by FLIP then by RESHAPE then by EXPAND then by PAD then by SHRINK then by LOAD then tt) h refl
 
@@ -185,3 +239,23 @@ module _ (x : Node) (s t u r : List ℕ) (right : Right x s t u r) where
       let n : x .op ≡ WHERE → ⊥ = eqb-false (x .op) WHERE is in
       let two = binary-spreads x s t u (right .first .positive) (right .second .positive) (right .shapes) (range-binaries (x .op) low high n) in
       (two .0, two .1, λ q. absurd (n q))))
+
+  -- so are those of a FILL
+  pub filled-spreads : x .op ≡ FILL → Spreads s r × Spreads t r
+  filled-spreads q = rw (right .result) (fill-spreads x s t u (right .first .positive) (right .second .positive) (right .shapes) q)
+
+  pub known-result : x .op ≡ KNOWN → r ≡ s
+  unfolding resultExtents among
+  known-result q = rw q at (right .result)
+
+  pub stacked-right : x .op ≡ STACK → Stacked x s t u r
+  stacked-right q =
+      record {
+        operation = q;
+        number = stack-rule x (right .params) (length s) (right .rows) q;
+        result = right .result ∙ stack-extents x s t u q;
+        second = stack-second x s t u q (right .shapes);
+        third = stack-third x s t u q (right .shapes);
+        some = some-element s (right .first .positive);
+        few = right .first .few;
+      }

@@ -22,10 +22,10 @@ use Rattle.cells.specs.Cells.{known, gap}
 use Rattle.cells.specs.Nodes.{Operands, evalCell}
 use Rattle.runner.specs.Inputs.{inputCell}
 use Rattle.runner.specs.Run.{valueOf, flagOf}
-use Rattle.views.specs.Walks.{Walks}
+use Rattle.moving.specs.Moved.{moved}
 use Rattle.views.proofs.Walking.{flatGrid, flatView, flat-walks}
 use Rattle.inputs.specs.Scanning.{cellIn}
-use Rattle.evaluation.specs.Standing.{Evaluates, Given, copied}
+use Rattle.evaluation.specs.Standing.{Source, Evaluates, Given, copied}
 
 -- a count that is within the limit
 pub capped-is : {n m : ℕ} → n ≡ capped m → m ≤ 1048576 → n ≡ m
@@ -39,9 +39,21 @@ copied-cell x r o e h =
     for-group (λ (op : ℕ). x .op ≡ op → evalCell x r o (element e) ≡ getD (o .a .cells) e gap) (x .op) copied
     ((λ q. rw q refl) then (λ q. rw q refl) then (λ q. rw q refl) then tt) h refl
 
--- cells one after another, of a source with as many
-pub copied-walk : (base : ℕ) {n m k : ℕ} → n ≡ m → k ≡ m → 0 < m → Walks (flatGrid n) (flatView base) base m k (λ (e : ℕ). e)
-copied-walk base {n} {m} {k} e f p = rw (e, f) (flat-walks base m p)
+-- cells one after another
+pub flat-moved : {A : Type 0} (d : A) (l : List A) (p n to : ℕ) → 0 < n → moved d l (flatGrid n) (flatView p) to ≡ store l to n (λ (j : ℕ). getD l (p + j) d)
+flat-moved d l p n to some =
+    let w = flat-walks p n some in
+    rw (w .cells) (store-same l to n _ _ (λ j h. ap (λ (k : ℕ). getD l k d) (w .at j h)))
+
+-- RESHAPE, CAST and LOAD
+pub copied-evaluates : (x : Node) (s r : List ℕ) (o : Operands) (base : ℕ) (vs : List ℤ) (fs : List ℕ) (start : ℕ) {n : ℕ} {vs′ : List ℤ} {fs′ : List ℕ} → among (x .op) copied ≡ true → n ≡ count r → count s ≡ count r
+    → Source vs fs base s (o .a) → (vs′ ≡ store vs start n (λ (j : ℕ). getD vs (base + j) (pos 0))) × (fs′ ≡ store fs start n (λ (j : ℕ). getD fs (base + j) 0)) → Evaluates x r o vs fs start vs′ fs′
+copied-evaluates x s r o base vs fs start h e same from m =
+    let there : (j : ℕ) → j < count r → j < count (o .a .extents) = λ j l. rw (from .shape, same) l in
+    record {
+      values = m .0 ∙ rw e (store-same vs start (count r) _ _ (λ j l. from .stands .values j (there j l) ∙ ap valueOf (sym (copied-cell x r o j h))));
+      flags = m .1 ∙ rw e (store-same fs start (count r) _ _ (λ j l. from .stands .flags j (there j l) ∙ ap flagOf (sym (copied-cell x r o j h))));
+    }
 
 -- CONST
 const-cell : (x : Node) (r : List ℕ) (o : Operands) (e : ℕ) → x .op ≡ CONST → evalCell x r o (element e) ≡ known (x .number)

@@ -3,5 +3,7 @@ pub mod Laying
 pub mod Leaves
 pub mod Groups
 pub mod Mixed
+pub mod Filled
+pub mod Stacked
 pub mod Gathered
 pub mod Turns

@@ -103,10 +103,10 @@ module _ {R : Row} {v : View} {base : ℕ} {s : List ℕ} (r : List ℕ) (vs : L
   same : Spreading R v base (f .extents) r
   same = rw (source .shape) w
 
-  value-at : (e : ℕ) → e < count r → getD vs (place R v e) (pos 0) ≡ valueOf (broadcastCell f r (element e))
+  pub value-at : (e : ℕ) → e < count r → getD vs (place R v e) (pos 0) ≡ valueOf (broadcastCell f r (element e))
   value-at e h = ap (λ (p : ℕ). getD vs p (pos 0)) (same .at e h) ∙ source .stands .values _ (walk-below same e h)
 
-  flag-at : (e : ℕ) → e < count r → getD fs (place R v e) 0 ≡ flagOf (broadcastCell f r (element e))
+  pub flag-at : (e : ℕ) → e < count r → getD fs (place R v e) 0 ≡ flagOf (broadcastCell f r (element e))
   flag-at e h = ap (λ (p : ℕ). getD fs p 0) (same .at e h) ∙ source .stands .flags _ (walk-below same e h)
 
 three-cells : {C : Type 0} (F : ℤ → ℕ → ℤ → ℕ → ℤ → ℕ → C) {x x′ y y′ z z′ : ℤ} {f f′ g g′ h h′ : ℕ} → x ≡ x′ → f ≡ f′ → y ≡ y′ → g ≡ g′ → z ≡ z′ → h ≡ h′ → F x f y g z h ≡ F x′ f′ y′ g′ z′ h′

@@ -20,8 +20,8 @@ module _ (t : List ℤ) (n : ℕ) (ds : List Derived) (m : NodesMeet t n ds) whe
       record { positive = e .positive; ranked = e .ranked; few = few-elements t i (take i ds) (getD ds i noSource) (m .each i l) }
 
   module _ (i : ℕ) (l : i < n) where
-    source-proper : (k : ℕ) (s : NodeNumber) → Proper (sourceOf (take i ds) (nodeAt t i .op) k s .extents)
-    source-proper k s = source-has (λ (d : Derived). Proper (d .extents)) ds i proper-none (λ j h. proper-at j (omega arith)) (nodeAt t i .op) k s
+    source-proper : (k : ℕ) (s : NodeNumber) → Proper (sourceOf (take i ds) (nodeAt t i) k s .extents)
+    source-proper k s = source-has (λ (d : Derived). Proper (d .extents)) ds i proper-none (λ j h. proper-at j (omega arith)) (nodeAt t i) k s
 
     pub node-right : Right (nodeAt t i) (first (nodeAt t i) (take i ds) .extents) (second (nodeAt t i) (take i ds) .extents) (third (nodeAt t i) (take i ds) .extents) (getD ds i noSource .extents)
     node-right =

@@ -8,8 +8,8 @@ use lib.ListN.{length, getD}
 use Rattle.laws.specs.Numbering.{count}
 use Rattle.laws.specs.Store.{store}
 use Rattle.plan.specs.declared.Node.{Node}
-use Rattle.plan.specs.Operations.{RESHAPE, PAD, CAST, REDUCE, LOAD, followed}
-use Rattle.plan.specs.Words.{listOf, element}
+use Rattle.plan.specs.Operations.{RESHAPE, PAD, CAST, REDUCE, LOAD, STACK, followed}
+use Rattle.plan.specs.Words.{listOf, element, sizeOf, reads}
 use Rattle.shapes.specs.Rows.{extentsOf}
 use Rattle.shapes.specs.Rules.{elementLimit, extent, reduced, shapesAgree}
 use Rattle.cells.specs.Cells.{Cell, gap, Field}
@@ -64,4 +64,14 @@ pub record Reduced (x : Node) (s r : List ℕ) : Type 0 where
   pub operation : x .op ≡ REDUCE
   pub result : r ≡ reduced s (listOf (x .rowa))
   pub positive : (k : ℕ) → 0 < extent s k
+  pub few : count s ≤ elementLimit
+
+-- what a check has found of a STACK, its sources and its result
+pub record Stacked (x : Node) (s t u r : List ℕ) : Type 0 where
+  pub operation : x .op ≡ STACK
+  pub number : (2 ≤ sizeOf (x .number)) × (sizeOf (x .number) ≤ 3)
+  pub result : r ≡ sizeOf (x .number) ∷ s
+  pub second : t ≡ s
+  pub third : reads x 3 ≡ true → u ≡ s
+  pub some : 0 < count s
   pub few : count s ≤ elementLimit

@@ -3,16 +3,18 @@ ghost use mathlib.Core.Path.{_≡_};
 ghost use mathlib.Core.Bool.{true, cond};
 ghost use mathlib.Core.List.{List, []};
 ghost use Prim.Native.Nat.{ℕ, _+_, _≤_, _<_};
+ghost use Rattle.laws.specs.Store.{store};
+ghost use Rattle.overlaying.specs.Overlay.{overlaidValues, overlaidFlags};
 ghost use Rattle.laws.specs.Lists.{among};
 ghost use Rattle.laws.specs.Numbering.{count};
 ghost use Rattle.shapes.specs.Rules.{resultExtents, gatheredExtents};
 ghost use Rattle.shapes.specs.Shown.{shown};
 ghost use lib.IntN.{pos};
-ghost use lib.ListN.{length};
+ghost use lib.ListN.{length, getD};
 ghost use Rattle.views.specs.Views.{cellsOf, reach};
 ghost use Rattle.moving.specs.Moved.{moved};
-ghost use Rattle.plan.specs.Operations.{WHERE};
-ghost use Rattle.plan.specs.Words.{listOf};
+ghost use Rattle.plan.specs.Operations.{WHERE, FILL, KNOWN, isNew};
+ghost use Rattle.plan.specs.Words.{listOf, reads};
 ghost use Rattle.shapes.proofs.Broadcast.{Spreads};
 ghost use Rattle.shapes.proofs.Extents.{Positive};
 ghost use Rattle.views.specs.Walks.{InFront};
@@ -23,7 +25,7 @@ ghost use Rattle.walking.specs.Alike.{Near};
 ghost use Rattle.evaluation.specs.Ready.{Proper, Right, Ready, Reads};
 ghost use Rattle.cells.specs.Nodes.{Operands};
 ghost use Rattle.walking.specs.Movements.{Viewed};
-ghost use Rattle.evaluation.specs.Standing.{Source, Evaluates, Room, Given, copied, moves, Padded, Reduced};
+ghost use Rattle.evaluation.specs.Standing.{Source, Evaluates, Room, Given, copied, moves, Padded, Reduced, Stacked};
 ghost use Rattle.evaluation.specs.Spread.{Spreading, Spread};
 ghost use lib.Dec.{eqb};
 use plan::Node;
@@ -66,6 +68,29 @@ pub fn eval_viewed(
     move_cells(views::grid(r), v, values, flags, start);
 }
 
+// n cells from p on, one after another.
+fn copy_cells(n: usize, p: usize, values: &mut [i64], flags: &mut [u8], to: usize)
+    requires { ⌜ (0 < n) × (p + n ≤ to) × (to + n ≤ length (now values)) × (to + n ≤ length (now flags)) ⌝ }
+    ensures { λ _. ⌜ (now (values .exit) ≡ store (now (values .entry)) to n (λ (j : ℕ). getD (now (values .entry)) (p + j) (pos 0))) × (now (flags .exit) ≡ store (now (flags .entry)) to n (λ (j : ℕ). getD (now (flags .entry)) (p + j) 0)) ⌝ }
+{
+    let none = Stride { up: 0, down: 0 };
+    let one = Stride { up: 1, down: 0 };
+    let g = Row {
+        r0: 1,
+        r1: 1,
+        r2: 1,
+        r3: n,
+    };
+    let v = View {
+        base: p,
+        s0: none,
+        s1: none,
+        s2: none,
+        s3: one,
+    };
+    move_cells(g, v, values, flags, to);
+}
+
 // RESHAPE, CAST and LOAD: the cells of the source, one after another.
 pub fn eval_copied(
     x: Node,
@@ -79,23 +104,7 @@ pub fn eval_copied(
     requires { ⌜ (among (x .op) copied ≡ true) × (count (shown s) ≡ count (shown r)) × (count (shown r) ≤ 1048576) × Room (shown r) start (now values) (now flags) × (base + count (shown s) ≤ start) ⌝ }
     ensures { λ _. ⌜ ((o : Operands) → Source (now (values .entry)) (now (flags .entry)) base (shown s) (o .a) → Evaluates x (shown r) o (now (values .entry)) (now (flags .entry)) start (now (values .exit)) (now (flags .exit))) ⌝ }
 {
-    let n = shaping::count(r);
-    let none = Stride { up: 0, down: 0 };
-    let one = Stride { up: 1, down: 0 };
-    let g = Row {
-        r0: 1,
-        r1: 1,
-        r2: 1,
-        r3: n,
-    };
-    let v = View {
-        base: base,
-        s0: none,
-        s1: none,
-        s2: none,
-        s3: one,
-    };
-    move_cells(g, v, values, flags, start);
+    copy_cells(shaping::count(r), base, values, flags, start);
 }
 
 // PAD.
@@ -292,6 +301,105 @@ pub fn eval_reduced(
     );
 }
 
+// The cells of a view laid over those of another.
+fn overlay_cells(w: Walk, values: &mut [i64], flags: &mut [u8], start: usize)
+    requires { ⌜ Near w start × (0 < cellsOf (w .grid)) × (start + cellsOf (w .grid) ≤ length (now values)) × (start + cellsOf (w .grid) ≤ length (now flags)) ⌝ }
+    ensures { λ _. ⌜ (now (values .exit) ≡ overlaidValues (now (values .entry)) (now (flags .entry)) (w .grid) (w .a) (w .b) start) × (now (flags .exit) ≡ overlaidFlags (now (flags .entry)) (w .grid) (w .a) (w .b) start) ⌝ }
+{
+    let t = walking::settle(w);
+    let rows = walking::rows(t.grid);
+    overlaying::overlay_values(values, flags, t.grid, t.a, t.b, rows, start);
+    overlaying::overlay_flags(flags, t.grid, t.a, t.b, rows, start);
+}
+
+// FILL.
+fn eval_filled(
+    x: Node,
+    r: Shape,
+    a: Operand,
+    b: Operand,
+    values: &mut [i64],
+    flags: &mut [u8],
+    start: usize,
+)
+    requires { ⌜ (x .op ≡ FILL) × Proper (shown (a .shape)) × Proper (shown (b .shape)) × Positive (shown r) × Spreads (shown (a .shape)) (shown r) × Spreads (shown (b .shape)) (shown r) × Room (shown r) start (now values) (now flags) × (a .base + count (shown (a .shape)) ≤ start) × (b .base + count (shown (b .shape)) ≤ start) ⌝ }
+    ensures { λ _. ⌜ ((o : Operands) → Source (now (values .entry)) (now (flags .entry)) (a .base) (shown (a .shape)) (o .a) → Source (now (values .entry)) (now (flags .entry)) (b .base) (shown (b .shape)) (o .b) → Evaluates x (shown r) o (now (values .entry)) (now (flags .entry)) start (now (values .exit)) (now (flags .exit))) ⌝ }
+{
+    let grid = views::grid(r);
+    let va = operand_view(a);
+    let vb = operand_view(b);
+    overlay_cells(
+        Walk {
+            grid: grid,
+            a: va,
+            b: vb,
+            d: vb,
+        },
+        values,
+        flags,
+        start,
+    );
+}
+
+// KNOWN.
+fn eval_known(x: Node, r: Shape, base: usize, values: &mut [i64], flags: &mut [u8], start: usize)
+    requires { ⌜ (x .op ≡ KNOWN) × (count (shown r) ≤ 1048576) × Room (shown r) start (now values) (now flags) × (base + count (shown r) ≤ start) ⌝ }
+    ensures { λ _. ⌜ ((o : Operands) → Source (now (values .entry)) (now (flags .entry)) base (shown r) (o .a) → Evaluates x (shown r) o (now (values .entry)) (now (flags .entry)) start (now (values .exit)) (now (flags .exit))) ⌝ }
+{
+    let n = shaping::count(r);
+    overlaying::known_values(values, flags, n, base, start);
+    moving::fill_flags(flags, n, start, 1);
+}
+
+// STACK: one source after another.
+fn eval_stacked(
+    x: Node,
+    r: Shape,
+    a: Operand,
+    b: Operand,
+    d: Operand,
+    values: &mut [i64],
+    flags: &mut [u8],
+    start: usize,
+)
+    requires { ⌜ Stacked x (shown (a .shape)) (shown (b .shape)) (shown (d .shape)) (shown r) × Room (shown r) start (now values) (now flags) × (a .base + count (shown (a .shape)) ≤ start) × (b .base + count (shown (b .shape)) ≤ start) × (reads x 3 ≡ true → d .base + count (shown (d .shape)) ≤ start) ⌝ }
+    ensures { λ _. ⌜ ((o : Operands) → Source (now (values .entry)) (now (flags .entry)) (a .base) (shown (a .shape)) (o .a) → Source (now (values .entry)) (now (flags .entry)) (b .base) (shown (b .shape)) (o .b) → (reads x 3 ≡ true → Source (now (values .entry)) (now (flags .entry)) (d .base) (shown (d .shape)) (o .c)) → Evaluates x (shown r) o (now (values .entry)) (now (flags .entry)) start (now (values .exit)) (now (flags .exit))) ⌝ }
+{
+    let n = shaping::count(a.shape);
+    copy_cells(n, a.base, values, flags, start);
+    copy_cells(n, b.base, values, flags, start + n);
+    if !plan::in_number(x, 3) {
+        return;
+    }
+    copy_cells(n, d.base, values, flags, start + n + n);
+}
+
+// The operations of the second edition.
+fn eval_new(
+    x: Node,
+    r: Shape,
+    a: Operand,
+    b: Operand,
+    d: Operand,
+    values: &mut [i64],
+    flags: &mut [u8],
+    start: usize,
+)
+    requires { ⌜ (isNew (x .op) ≡ true) × Right x (shown (a .shape)) (shown (b .shape)) (shown (d .shape)) (shown r) × Room (shown r) start (now values) (now flags) × (reads x 1 ≡ true → a .base + count (shown (a .shape)) ≤ start) × (reads x 2 ≡ true → b .base + count (shown (b .shape)) ≤ start) × (reads x 3 ≡ true → d .base + count (shown (d .shape)) ≤ start) ⌝ }
+    ensures { λ _. ⌜ ((o : Operands) → (reads x 1 ≡ true → Source (now (values .entry)) (now (flags .entry)) (a .base) (shown (a .shape)) (o .a)) → (reads x 2 ≡ true → Source (now (values .entry)) (now (flags .entry)) (b .base) (shown (b .shape)) (o .b)) → (reads x 3 ≡ true → Source (now (values .entry)) (now (flags .entry)) (d .base) (shown (d .shape)) (o .c)) → Evaluates x (shown r) o (now (values .entry)) (now (flags .entry)) start (now (values .exit)) (now (flags .exit))) ⌝ }
+{
+    let op = x.op;
+    if op == 21 {
+        eval_filled(x, r, a, b, values, flags, start);
+        return;
+    }
+    if op == 22 {
+        eval_known(x, r, a.base, values, flags, start);
+        return;
+    }
+    eval_stacked(x, r, a, b, d, values, flags, start);
+}
+
 // The cells of a node of shape r.
 pub fn eval_node(
     x: Node,
@@ -324,6 +432,10 @@ pub fn eval_node(
     }
     if (9 <= op) & (op < 19) {
         eval_mixed(x, r, a, b, d, values, flags, start);
+        return;
+    }
+    if 21 <= op {
+        eval_new(x, r, a, b, d, values, flags, start);
         return;
     }
     eval_moved(x, r, a, values, flags, start);

@@ -17,7 +17,7 @@ use Rattle.plan.specs.Operations.{PARAM, IDIV, MOD}
 use Rattle.plan.specs.Types.{between, holds}
 use Rattle.plan.specs.Words.{nodeAt, nodeCount, element}
 use Rattle.plan.specs.Answers.{Outcome, accepted}
-use Rattle.plan.proofs.ByOperation.{divides-uses}
+use Rattle.plan.proofs.ByOperation.{divides-reads}
 use Rattle.bounds.proofs.Sound.{holding}
 use Rattle.rules.specs.Rules.{Derived}
 use Rattle.verifier.specs.Meets.{NodesMeet, PlanMeets}
@@ -138,7 +138,7 @@ module _ (t : List ℤ) (ds : List Derived) (x : Lent) (h : Proper t ds x) where
     safe-divisors : (word t n 0 ≡ pos IDIV) ⊎ (word t n 0 ≡ pos MOD) → SafeDivisors t ds x n
     safe-divisors d =
         let a : among (nodeAt t n .op) (IDIV ∷ MOD ∷ []) ≡ true = divides t n d in
-        let s : nodeAt t n .source2 .0 < n = source2-before t n _ _ (met .each n l) (divides-uses (nodeAt t n .op) a) in
+        let s : nodeAt t n .source2 .0 < n = source2-before t n _ _ (met .each n l) (divides-reads (nodeAt t n) a) in
         record {
           second = nodeAt t n .source2 .0;
           is-second = size-is (word t n 2) (nodeAt t n .source2 .0) (as-count (word t n 2) ∙ sym (second-node t n)) (omega (arith, s, l, plan .nodes .as-many, several .1));

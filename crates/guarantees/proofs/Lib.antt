@@ -1,6 +1,8 @@
 pub mod Everything
 pub mod Examples
 pub mod Words
+pub mod Users
+pub mod Editions
 pub mod RowWords
 pub mod ShapeWords
 pub mod Rules

@@ -20,7 +20,7 @@ use Rattle.plan.specs.declared.ElementNumber.{ElementNumber}
 use Rattle.plan.specs.Operations.{followed, byOperation}
 use Rattle.plan.specs.Words.{node, element, nodeAt}
 use Rattle.plan.specs.Answers.{accepted}
-use Rattle.plan.proofs.ByOperation.{_then_, for-group, followed-uses}
+use Rattle.plan.proofs.ByOperation.{_then_, for-group, operation-small, followed-reads}
 use Rattle.shapes.specs.Sources.{sourceElement}
 use Rattle.shapes.specs.Coordinates.{NewCell}
 use Rattle.shapes.proofs.Coordinates.{is-followed, followed-is, source-none}
@@ -69,7 +69,7 @@ module _ (t : List ℤ) (ds : List Derived) (v : verdict t ≡ accepted ds) wher
 
   module _ (n : NodeNumber) (h : n .0 < length ds) where
     op-is : word t (n .0) 0 ≡ pos (nodeAt t (n .0) .op)
-    op-is = op-word t (n .0) _ refl (omega (arith, op-known t (n .0) _ _ (plan .nodes .each (n .0) (rw (plan .nodes .as-many) at h))))
+    op-is = op-word t (n .0) _ refl (omega (arith, operation-small _ (op-known t (n .0) _ _ (plan .nodes .each (n .0) (rw (plan .nodes .as-many) at h)))))
 
     first-is : among (nodeAt t (n .0) .op) followed ≡ true → word t (n .0) 1 ≡ pos (nodeAt t (n .0) .source1 .0)
     first-is f = size-is (word t (n .0) 1) _ (as-count (word t (n .0) 1) ∙ sym (first-node t (n .0))) (omega (arith, source-earlier t ds v n h f, few))
@@ -191,7 +191,7 @@ module _ (t : List ℤ) (ds : List Derived) (v : verdict t ≡ accepted ds) wher
     cell-back n e h f =
         let x = nodeAt t (n .0) in
         let l = source-earlier t ds v n (h .0) f in
-        let g = source-field t ds input (length ds) (n .0) (x .op) 1 (x .source1) (omega (arith, h .0)) (followed-uses (x .op) f) l in
+        let g = source-field t ds input (length ds) (n .0) x 1 (x .source1) (omega (arith, h .0)) (followed-reads x f) l in
         let s = field-extents t ds input (length ds) (x .source1 .0) (omega (arith, h .0, l)) in
         field-cell t ds input (length ds) (n .0) (h .0) e (h .1)
         ∙ followed-cell x (recordOf ds n .extents) (operandsOf t ds input (n .0) (fieldsTo t ds input (n .0))) e f

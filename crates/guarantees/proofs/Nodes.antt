@@ -25,6 +25,6 @@ module _ (t : List ℤ) (ds : List Derived) (v : verdict t ≡ accepted ds) (n :
   pub rules : NodeMeets t n (take n ds) (getD ds n noSource)
   rules = plan .nodes .each n below
 
-  pub source-extents : (k : ℕ) (s : NodeNumber) → Extents (sourceOf (take n ds) (nodeAt t n .op) k s .extents)
+  pub source-extents : (k : ℕ) (s : NodeNumber) → Extents (sourceOf (take n ds) (nodeAt t n) k s .extents)
   source-extents k s =
-      source-has (λ (d : Derived). Extents (d .extents)) ds n no-extents (λ j q. extents-at t (nodeCount t) ds (plan .nodes) j (omega (arith, below))) (nodeAt t n .op) k s
+      source-has (λ (d : Derived). Extents (d .extents)) ds n no-extents (λ j q. extents-at t (nodeCount t) ds (plan .nodes) j (omega (arith, below))) (nodeAt t n) k s

@@ -12,7 +12,7 @@ use Rattle.laws.proofs.Booleans.{bool-cases}
 use Rattle.plan.specs.Answers.{Outcome, accepted, refused}
 use Rattle.codec.specs.Plans.{unpack}
 use Rattle.codec.proofs.Bounds.{Holds, holds-then}
-use Rattle.codec.proofs.Prefix.{PlacedTo, Whole, planLimit, plan-ends, plan-same}
+use Rattle.codec.proofs.Prefix.{PlacedTo, Whole, planLimit, placeLimit, plan-ends, plan-same}
 use Rattle.rules.specs.Rules.{Derived}
 use Rattle.verifier.specs.Check.{verdict, Checked, unpackCheck}
 use Rattle.verifier.specs.Listing.{textOf, readLimit, listing}
@@ -22,7 +22,7 @@ use Rattle.guarantees.specs.Packed.{PlansAreShort, FirstBytesDecide, Tol
 
 pub plans-are-short : PlansAreShort
 plans-are-short s room u e =
-    let h = subst (Holds (Whole s planLimit) (PlacedTo planLimit)) e (plan-ends s room) in
+    let h = subst (Holds (Whole s planLimit) (PlacedTo placeLimit)) e (plan-ends s room) in
     omega (arith, h .0, h .1)
 
 -- ---- the first bytes
@@ -54,23 +54,23 @@ first-bytes-decide = record { of-check = first-check; of-listing = first-listing
 abbrev Records : List Derived → Type 0
 Records ds = Several (length ds)
 
-check-placed : (t : List ℤ) → Holds Records (PlacedTo planLimit) (verdict t)
+check-placed : (t : List ℤ) → Holds Records (PlacedTo placeLimit) (verdict t)
 check-placed t = by (verdict t) refl
   where
-    by : (o : Outcome (List Derived)) → verdict t ≡ o → Holds Records (PlacedTo planLimit) o
+    by : (o : Outcome (List Derived)) → verdict t ≡ o → Holds Records (PlacedTo placeLimit) o
     by (accepted ds) e = let m = accepted-meets t ds e in rw (m .nodes .as-many) (few-nodes t (m .length-right))
     by (refused r) e = let q = refusal-numbered t r (refused-because t r e) in (q .0 .0, omega (arith, q .1))
 
 -- such records, or a refusal with a number and a place
 abbrev Answered : Outcome Checked → Type 0
-Answered = Holds (λ (p : Checked). Records (p .records)) (PlacedTo planLimit)
+Answered = Holds (λ (p : Checked). Records (p .records)) (PlacedTo placeLimit)
 
 answered : (s : List ℕ) → Answered (unpackCheck s)
 unfolding unpackCheck
 answered s =
     let P : Checked → Type 0 = λ p. Records (p .records) in
-    holds-then (Whole s planLimit) P (PlacedTo planLimit) (unpack s 4352) _ (plan-ends s 4352)
-    (λ u _. holds-then Records P (PlacedTo planLimit) (verdict (u .words)) (λ ds. accepted (record { table = u .words; records = ds })) (check-placed (u .words)) (λ ds h. h))
+    holds-then (Whole s planLimit) P (PlacedTo placeLimit) (unpack s 4352) _ (plan-ends s 4352)
+    (λ u _. holds-then Records P (PlacedTo placeLimit) (verdict (u .words)) (λ ds. accepted (record { table = u .words; records = ds })) (check-placed (u .words)) (λ ds h. h))
 
 pub told-apart : ToldApart
 told-apart =

@@ -2,55 +2,60 @@
 use Prim.Native.Nat.{ℕ, zero, suc, _+_, _*_, _/_, _<_, _≤_}
 use mathlib.Core.Path.{_≡_, refl, sym, ap, subst, _∙_}
 use mathlib.Core.Bool.{Bool, true, false, not, cond, false≢true}
-use mathlib.Core.Logic.{_⊎_, ⊎-elim}
+use mathlib.Core.Logic.{⊎-elim}
 use mathlib.Core.List.{List, [], _∷_, _++_}
 use native.Mathlib.Nat.{add-zero, zero-add, le-refl}
 use native.Mathlib.Omega.{arith}
-use borrow.Author.Tests.{ltb-true, leb-false}
+use borrow.Author.Tests.{leb-false}
 use lib.IntN.{ℤ, pos}
-use lib.Dec.{leb, ltb}
+use lib.Dec.{leb}
 use lib.ListN.{length, getD, take, drop}
 use lib.Seq.{take-at, take-append-seam}
 use Rattle.laws.specs.Lists.{among}
 use Rattle.laws.proofs.Booleans.{bool-cases, or-true, all-below, all-below-of}
-use Rattle.plan.specs.Operations.{uses, operationCount}
+use Rattle.plan.specs.Operations.{uses, isOperation}
 use Rattle.plan.specs.Types.{holds}
 use Rattle.plan.specs.Words.{wordAt, sizeAt, wordsOf, nodeOf, nodeAt, nodeCount, lengthRight, unusedZero}
 use Rattle.plan.specs.Answers.{Refusal, Outcome, accepted, refused, refuse, need, andThen, inTurn, rule, AllHold, FirstFailing, written}
-use Rattle.plan.proofs.Outcomes.{never-both, accepted-same, refused-same, turn-more, turn-stays, turn-refused, order-refused, order-fails, some-rule, fails-cases, fails-here, holds-then}
+use Rattle.plan.proofs.Outcomes.{never-both, refused-same, turn-more, turn-stays, turn-refused, order-refused, order-fails, some-rule, fails-cases, fails-here, holds-then}
+use Rattle.plan.proofs.ByOperation.{operation-small}
 use Rattle.plan.proofs.Decoding.{word-at}
 use Rattle.bounds.proofs.Sound.{held, holding}
 use Rattle.codec.specs.Plans.{Unpacked, unpack, unpackAnswer, tableAfter}
+use Rattle.codec.proofs.Bounds.{Holds}
+use Rattle.codec.proofs.Prefix.{PlacedTo, Whole, planLimit, placeLimit, plan-ends}
 use Rattle.packing.specs.Bytes.{bytesOf}
-use Rattle.packing.specs.Packing.{wordRange, usedInRange, nodeBytes, packRules, packNode, pack, packAnswer, bytesAfter}
+use Rattle.packing.specs.Packing.{wordRange, usedInRange, nodeBytes, openingBytes, packRules, packNode, pack, packAnswer, bytesAfter}
 use Rattle.packing.proofs.NumbersBack.{Here}
 use Rattle.packing.proofs.NumbersBack as numbers
 use Rattle.packing.proofs.Standing.{here-self}
 use Rattle.packing.proofs.NodesBack.{zero-unused}
-use Rattle.packing.proofs.PlansBack.{read-of-written, written-of-read}
+use Rattle.packing.proofs.PlansBack.{read-of-written, written-of-read, one-file}
 use Rattle.packing.proofs.Taken as taken
 use Rattle.packing.proofs.Bytewise.{pack-bytes}
 use Rattle.verifier.specs.Meets.{ruleHolds}
-use Rattle.guarantees.specs.Questions.{i16, constant}
+use Rattle.guarantees.specs.Questions.{i16, constant, zeros}
 use Rattle.guarantees.specs.Demand3.{word}
 use Rattle.guarantees.specs.Acceptance.{Nodes}
 use Rattle.guarantees.specs.Rules.{Exactly, Rule2, Rule3}
-use Rattle.guarantees.specs.Unpacks.{UnpackRefuses, bad-number, bad-count, no-room, left-over, NumberRefuses, bytes-end, too-long, padded}
-use Rattle.guarantees.specs.Unpacks as unpacks
+use Rattle.guarantees.specs.Unpacks.{Opens, New}
 use Rattle.guarantees.specs.Packs.{Rule25, Packable, Before, Takes, AreBytes, File, PackRefuses, bad-length, bad-operation, unused-word, outside, PacksExactly, OneForm, RoundTrips}
 use Rattle.guarantees.specs.Packs as packs
+use Rattle.guarantees.proofs.Everything.{everything}
 use Rattle.guarantees.proofs.Words.{op-size, op-of, op-word}
 use Rattle.guarantees.proofs.RowWords.{from-size}
-use Rattle.guarantees.proofs.Rules.{same-users, rules-say}
+use Rattle.guarantees.proofs.Users.{same-users}
+use Rattle.guarantees.proofs.Editions.{first-of, second-of}
+use Rattle.guarantees.proofs.Rules.{rules-say}
 use Rattle.guarantees.proofs.Acceptance.{whole, counted, right}
-use Rattle.guarantees.proofs.Unpacks.{unpacks-exactly}
+use Rattle.guarantees.proofs.Unpacks.{begins-opens, first-old, unpacks-exactly}
 use Rattle.guarantees.proofs.Packed.{plans-are-short}
 
 -- ---- a node
 
 module _ (t : List ℤ) (n : ℕ) where
   -- the writer's tests of a node are those of the check
-  test-2 : ruleHolds t n [] 2 ≡ ltb (sizeAt (wordsOf t n) 0) operationCount
+  test-2 : ruleHolds t n [] 2 ≡ isOperation (sizeAt (wordsOf t n) 0)
   unfolding ruleHolds nodeAt nodeOf among
   test-2 = refl
 
@@ -62,17 +67,17 @@ module _ (t : List ℤ) (n : ℕ) where
   unfolding nodeAt nodeOf
   op-is = refl
 
-  says-2 : Exactly (ltb (sizeAt (wordsOf t n) 0) operationCount ≡ true) (Rule2 t n)
+  says-2 : Exactly (isOperation (sizeAt (wordsOf t n) 0) ≡ true) (Rule2 t n)
   says-2 = let w = rules-say .rule-2 t n [] in (λ e. w .0 (test-2 ∙ e), λ h. sym test-2 ∙ w .1 h)
 
   module _ (o : ℕ) (q : word t n 0 ≡ pos o) where
     pub size-is : sizeAt (wordsOf t n) 0 ≡ o
     size-is = sym op-is ∙ op-of t n o q
 
-    pub known : Rule2 t n → o ≤ 20
-    known h = omega (arith, from-size (word t n 0) 20 h, op-size t n, op-of t n o q)
+    pub known : Rule2 t n → o ≤ 23
+    known h = omega (arith, from-size (word t n 0) 23 h, op-size t n, op-of t n o q)
 
-    module _ (h : o ≤ 20) where
+    module _ (h : o ≤ 23) where
       says-3 : Exactly (unusedZero (sizeAt (wordsOf t n) 0) (wordsOf t n) ≡ true) (Rule3 t n o)
       says-3 = let w = rules-say .rule-3 t n [] o q h in (λ e. w .0 (test-3 ∙ e), λ r. sym test-3 ∙ w .1 r)
 
@@ -99,9 +104,9 @@ module _ (t : List ℤ) (n : ℕ) where
   packable-of : AllHold (packRules (wordsOf t n)) → Packable t n
   packable-of h =
       let o : ℕ = sizeAt (wordsOf t n) 0 in
-      let small : o < 21 = ltb-true o 21 (h .0) in
+      let small : o < 24 = operation-small o (h .0) in
       let q : word t n 0 ≡ pos o = op-word t n o op-is (omega arith) in
-      let low : o ≤ 20 = omega arith in
+      let low : o ≤ 23 = omega arith in
       record { operation = o; is-operation = q; rule-2 = says-2 .0 (h .0); rule-3 = says-3 o q low .0 (h .1 .0); rule-25 = says-25 o q low .0 (h .1 .1 .0) }
 
   of-packable : Packable t n → AllHold (packRules (wordsOf t n))
@@ -129,11 +134,13 @@ module _ (t : List ℤ) where
           count = u .count;
           nodes = record { words = u .long; some = omega (arith, m .words, m .some, u .long); few = omega (arith, m .words, m .few, u .long) };
           are-bytes = pack-bytes t room b e;
+          edition = u .edition;
           all = u .all;
+          some-new = u .some-new;
         }
 
     read-of : File t b → unpack b (length t) ≡ accepted (record { words = t; next = length b })
-    read-of f = unpacks-exactly .accepted-when b (length t) _ .1 (record { count = f .count; long = f .nodes .words; all = f .all; end = refl })
+    read-of f = unpacks-exactly .accepted-when b (length t) _ .1 (record { edition = f .edition; count = f .count; long = f .nodes .words; all = f .all; end = refl; some-new = f .some-new })
 
     of-file : File t b → (room : ℕ) → length b ≤ room → pack t room ≡ accepted b
     of-file f room h = written-of-read b (f .are-bytes) (length t) _ (read-of f) room h
@@ -142,15 +149,25 @@ module _ (t : List ℤ) where
   file-taken b f = taken.takes .only t (length b) b (of-file b f (length b) (le-refl (length b))) .0
 
   same-file : (b c : List ℕ) → File t b → File t c → b ≡ c
-  same-file b c f g =
-      let room : ℕ = length b + length c in
-      accepted-same (sym (of-file b f room (omega arith)) ∙ of-file c g room (omega arith))
+  same-file b c f g = one-file b c (f .are-bytes) (g .are-bytes) (length t) (length t) _ _ (read-of b f) (read-of c g) refl
+
+-- ---- its edition
+
+module _ (t : List ℤ) (b : List ℕ) (m : ℕ) (f : File t b) (w : Nodes t m) where
+  as-many : f .count ≡ m
+  as-many = omega (arith, f .nodes .words, w .words)
+
+  picks-second : (n : ℕ) → n < m → New t n → Opens b 2 2
+  picks-second n l new = second-of (begins-opens b (f .edition) (length t) (f .all) .1) (λ one. first-old b (f .edition) (length t) (f .all) one (n, omega (arith, as-many, l), new))
+
+  picks-first : ((n : ℕ) → n < m → New t n → ⊥) → Opens b 1 0
+  picks-first none = first-of (begins-opens b (f .edition) (length t) (f .all) .1) (λ two. let x = f .some-new two in none (x .0) (omega (arith, as-many, x .1)) (x .2))
 
 -- ---- refusals
 
 module _ (t : List ℤ) (room : ℕ) where
   abbrev start : List ℕ
-  start = bytesOf (nodeCount t)
+  start = openingBytes t
 
   -- from the tests
 
@@ -160,11 +177,11 @@ module _ (t : List ℤ) (room : ℕ) where
 
     module _ {m n : ℕ} (w : Nodes t m) (l : n < m) (before : Before t n) (p : r .place ≡ n) where
       -- after 2
-      at-words : ltb (sizeAt (wordsOf t n) 0) operationCount ≡ true
+      at-words : isOperation (sizeAt (wordsOf t n) 0) ≡ true
           → FirstFailing (rule 3 (unusedZero (sizeAt (wordsOf t n) 0) (wordsOf t n)) ∷ rule 25 (usedInRange (sizeAt (wordsOf t n) 0) (wordsOf t n)) ∷ []) (r .number) → PackRefuses t room r
       at-words e f =
           let o : ℕ = sizeAt (wordsOf t n) 0 in
-          let low : o ≤ 20 = omega (arith, ltb-true o 21 e) in
+          let low : o ≤ 23 = omega (arith, operation-small o e) in
           let q : word t n 0 ≡ pos o = op-word t n o (op-is t n) (omega arith) in
           ⊎-elim
           (λ z. told 3 n (z .1) p (unused-word w l before q (says-2 t n .0 e) (λ h. false≢true (sym (z .0) ∙ says-3 t n o q low .1 h))))
@@ -236,9 +253,15 @@ module _ (t : List ℤ) (room : ℕ) where
       let is : all .0 ≡ b = same-file t (all .0) b (file-of t (all .0) (length (all .0)) (all .1 (length (all .0)) (le-refl (length (all .0))))) f in
       all .2 room (rw is h)
 
+-- ---- examples
+
 example-packs : pack (constant i16 (pos 5)) 4 ≡ accepted (1 ∷ 0 ∷ 4 ∷ 10 ∷ [])
-unfolding Rattle.laws.specs.Lists.among Rattle.laws.specs.Lists.allBelow Rattle.plan.specs.Answers.inTurn Rattle.plan.specs.Operations.uses Rattle.plan.specs.Types.holds Rattle.plan.specs.Words.sizeOf Rattle.plan.specs.Words.wordsOf Rattle.plan.specs.Words.nodeCount Rattle.plan.specs.Words.lengthRight Rattle.plan.specs.Words.unusedZero Rattle.packing.specs.Bytes.groupsOf Rattle.packing.specs.Bytes.bytesOf Rattle.packing.specs.Bytes.packedWord Rattle.packing.specs.Packing.usedInRange Rattle.packing.specs.Packing.wordsTo Rattle.packing.specs.Packing.nodeBytes Rattle.packing.specs.Packing.packNode Rattle.packing.specs.Packing.pack
+unfolding everything
 example-packs = refl
+
+second-packs : pack (constant i16 (pos 5) ++ pos 22 ∷ zeros 16) 8 ≡ accepted (0 ∷ 2 ∷ 2 ∷ 0 ∷ 4 ∷ 10 ∷ 22 ∷ 0 ∷ [])
+unfolding everything
+second-packs = refl
 
 pub packs-exactly : PacksExactly
 packs-exactly =
@@ -251,6 +274,9 @@ packs-exactly =
       accepted-when = λ t room b. (λ e. (file-of t b room e, taken.takes .only t room b e .1), λ x. of-file t b (x .0) room (x .1));
       refused-when = λ t room r. (refused-because t room r, because-refused t room r);
       example = file-of (constant i16 (pos 5)) (1 ∷ 0 ∷ 4 ∷ 10 ∷ []) 4 example-packs;
+      second-example = file-of (constant i16 (pos 5) ++ pos 22 ∷ zeros 16) (0 ∷ 2 ∷ 2 ∷ 0 ∷ 4 ∷ 10 ∷ 22 ∷ 0 ∷ []) 8 second-packs;
+      picks-second = λ t b m n f w. picks-second t b m f w n;
+      picks-first = picks-first;
       short = λ t b f. plans-are-short b (length t) _ (read-of t b f);
     }
 
@@ -284,18 +310,6 @@ pack-numbered (unused-word w l b q h n) e = absurd (omega (arith, e))
 pack-numbered (outside w l b q h k n) e = absurd (omega (arith, e))
 pack-numbered (packs.no-room f h) e = absurd (omega (arith, e))
 
-number-numbered : {s : List ℕ} {at : ℕ} {r : Refusal} → NumberRefuses s at r → r .number ≡ 0 → ⊥
-number-numbered (bytes-end a b c) e = absurd (omega (arith, e))
-number-numbered (too-long a) e = absurd (omega (arith, e))
-number-numbered (padded a b c d f) e = absurd (omega (arith, e))
-
-unpack-numbered : {s : List ℕ} {room : ℕ} {r : Refusal} → UnpackRefuses s room r → r .number ≡ 0 → ⊥
-unpack-numbered (bad-number d h) e = number-numbered h e
-unpack-numbered (bad-count a b) e = absurd (omega (arith, e))
-unpack-numbered (no-room a b c d) e = absurd (omega (arith, e))
-unpack-numbered (unpacks.bad-operation a b c d) e = absurd (omega (arith, e))
-unpack-numbered (left-over a b) e = absurd (omega (arith, e))
-
 -- what an answer of 0 comes from
 was-packed : (t : List ℤ) (room : ℕ) → packAnswer (pack t room) .number ≡ 0 → (b : List ℕ) × (pack t room ≡ accepted b)
 was-packed t room z = by (pack t room) refl z
@@ -309,7 +323,7 @@ was-unpacked s room z = by (unpack s room) refl z
   where
     by : (o : Outcome Unpacked) → unpack s room ≡ o → unpackAnswer o .number ≡ 0 → (u : Unpacked) × (unpack s room ≡ accepted u)
     by (accepted u) e z = (u, e)
-    by (refused r) e z = absurd (unpack-numbered (unpacks-exactly .refused-when s room r .0 e) z)
+    by (refused r) e z = absurd (omega (arith, subst (Holds (Whole s planLimit) (PlacedTo placeLimit)) e (plan-ends s room) .0, z))
 
 module _ (t : List ℤ) (buffer : List ℕ) (table : List ℤ) where
   abbrev Back : Outcome (List ℕ) → Type 0

@@ -30,19 +30,19 @@ use Rattle.plan.proofs.ByOperation.{_then_, for-range}
 use Rattle.shapes.specs.Rows.{extentsOf}
 use Rattle.shapes.specs.Rules.{extent, wordOf, flagged, broadcast, permuted, reduced, gatheredExtents, resultRules, resultExtents}
 use Rattle.shapes.proofs.Extents.{broadcast-length, broadcast-positive, reduced-length, permuted-length}
-use Rattle.bounds.specs.Rules.{corners, addBounds, mulBounds, maxBounds, idivBounds, modBounds, minBounds, whereBounds, cmpltBounds, disjoint, allEndsEqual, cmpneBounds, gatheredCount, reduceBounds, boundsRules, resultBounds}
+use Rattle.bounds.specs.Rules.{corners, addBounds, mulBounds, maxBounds, idivBounds, modBounds, minBounds, whereBounds, cmpltBounds, disjoint, allEndsEqual, cmpneBounds, gatheredCount, reduceBounds, stackBounds, boundsRules, resultBounds}
 use Rattle.rules.specs.Rules.{Derived, joinDevice, derivedOf, resultType}
 use Rattle.rules.proofs.DeviceRule.{device-none, device-param, device-load, device-joined}
 use Rattle.verifier.specs.Meets.{ruleHolds}
 use Rattle.verifier.specs.Check.{first, second, third, deriveNode}
 use Rattle.guarantees.specs.Demand3.{word, asCount}
-use Rattle.guarantees.specs.Rules.{usesWord, source, Rule9}
+use Rattle.guarantees.specs.Rules.{ReadsSource, source, Rule9}
 use Rattle.guarantees.specs.Values.{Floor}
-use Rattle.guarantees.specs.Records.{TypeIs, DeviceIs, MaxOf, MinOf, Extremes, Between, ifFlagged, flaggedProduct, BoundsAre, Joined, ExtentsAre, RecordsSay}
+use Rattle.guarantees.specs.Records.{TypeIs, DeviceIs, MaxOf, MinOf, LeastOf, GreatestOf, Extremes, Between, ifFlagged, flaggedProduct, BoundsAre, Joined, ExtentsAre, RecordsSay}
 use Rattle.guarantees.proofs.Words.{size-is, as-count, first-node, second-node, third-node, number-word, low-word, high-word, dtype-size, device-size, row-a-at}
 use Rattle.guarantees.proofs.RowWords.{row-is}
 use Rattle.guarantees.proofs.ShapeWords.{within, past, last-both}
-use Rattle.guarantees.proofs.Rules.{Share, agree-pairs, op-is, Device, device-of, says-9, first-is, second-is, third-is, uses-1, uses-2, uses-3}
+use Rattle.guarantees.proofs.Rules.{Share, agree-pairs, number-is, op-is, is-operation, reads-says, reads-not, reads-or, Device, device-of, says-9, first-is, second-is, third-is, reads-1, reads-2, reads-3}
 
 -- ---- least and greatest
 
@@ -51,6 +51,28 @@ max-of p q = (le-maxZ-left p q, le-maxZ-right p q, maxZ-of (λ (z : ℤ). (z ≡
 
 min-of : (p q : ℤ) → MinOf (minZ p q) p q
 min-of p q = (minZ-le-left p q, minZ-le-right p q, minZ-of (λ (z : ℤ). (z ≡ p) ⊎ (z ≡ q)) p q (inl refl) (inr refl))
+
+least-of : (p q r : ℤ) → LeastOf (minZ (minZ p q) r) p q r
+least-of p q r = (
+  omega (arithℤ, minZ-le-left p q, minZ-le-left (minZ p q) r),
+  omega (arithℤ, minZ-le-right p q, minZ-le-left (minZ p q) r),
+  minZ-le-right (minZ p q) r,
+  minZ-of One (minZ p q) r (minZ-of One p q (inl refl) (inr (inl refl))) (inr (inr refl)),
+)
+  where
+    One : ℤ → Type 0
+    One z = (z ≡ p) ⊎ ((z ≡ q) ⊎ (z ≡ r))
+
+greatest-of : (p q r : ℤ) → GreatestOf (maxZ (maxZ p q) r) p q r
+greatest-of p q r = (
+  omega (arithℤ, le-maxZ-left p q, le-maxZ-left (maxZ p q) r),
+  omega (arithℤ, le-maxZ-right p q, le-maxZ-left (maxZ p q) r),
+  le-maxZ-right (maxZ p q) r,
+  maxZ-of One (maxZ p q) r (maxZ-of One p q (inl refl) (inr (inl refl))) (inr (inr refl)),
+)
+  where
+    One : ℤ → Type 0
+    One z = (z ≡ p) ⊎ ((z ≡ q) ⊎ (z ≡ r))
 
 extremes : (p q r s : ℤ) → Extremes (min4 p q r s) (max4 p q r s) p q r s
 unfolding min4 max4
@@ -111,7 +133,7 @@ joins d e f de df ef = (
 module _ (x : Node) (s u v : List ℕ) (k : ℕ) (is : x .op ≡ k) where
   shape-row : resultExtents x s u v ≡ byOperation k (resultRules x s u v) []
   unfolding resultExtents
-  shape-row = rw is refl
+  shape-row = ap (λ (j : ℕ). byOperation j (resultRules x s u v) []) is
 
 -- "the larger wins"
 joined : (s u : List ℕ) → ((k : ℕ) → 1 ≤ getD s k 1) → ((k : ℕ) → 1 ≤ getD u k 1) → Joined s u (broadcast s u)
@@ -164,7 +186,7 @@ flagged-from t n flags (e ∷ s) j k h =
 module _ (x : Node) (s : List ℕ) (a b c : Interval) (k : ℕ) (is : x .op ≡ k) where
   bounds-row : resultBounds x s a b c ≡ byOperation k (boundsRules x s a b c) (between (pos 0) (pos 0))
   unfolding resultBounds
-  bounds-row = rw is refl
+  bounds-row = ap (λ (j : ℕ). byOperation j (boundsRules x s a b c) (between (pos 0) (pos 0))) is
 
 -- CMPLT and CMPNE
 less-row : (a b : Interval) → (a .high <ℤ b .low → cmpltBounds a b ≡ between (pos 1) (pos 1)) × (b .low ≤ℤ a .high → b .high ≤ℤ a .low → cmpltBounds a b ≡ between (pos 0) (pos 0))
@@ -200,7 +222,7 @@ differs-row a b = (
 
 -- ---- the bounds of node n
 
-module _ (t : List ℤ) (n : ℕ) (earlier : List Derived) (o : ℕ) (q : word t n 0 ≡ pos o) (known : o ≤ 20) where
+module _ (t : List ℤ) (n : ℕ) (earlier : List Derived) (o : ℕ) (q : word t n 0 ≡ pos o) (known : o ≤ 23) where
   abbrev d : Interval
   d = deriveNode t n earlier .bounds
 
@@ -213,26 +235,29 @@ module _ (t : List ℤ) (n : ℕ) (earlier : List Derived) (o : ℕ) (q : word t
   abbrev c : Interval
   c = source t n earlier 3 .bounds
 
-  -- the row of operation k, with the sources that it uses
+  from-two : ((9 ≤ o) × (o ≤ 18)) ⊎ ((o ≡ 21) ⊎ (o ≡ 23)) → 2 ≤ o
+  from-two = ⊎-elim (λ (w : (9 ≤ o) × (o ≤ 18)). omega (arith, w .0)) (⊎-elim (λ z. omega (arith, z)) (λ z. omega (arith, z)))
+
+  -- the row of operation k, with the sources that it reads
   none-used : (k : ℕ) → o ≡ k → deriveNode t n earlier .bounds ≡ byOperation k (boundsRules (nodeAt t n) (first (nodeAt t n) earlier .extents) (first (nodeAt t n) earlier .bounds) (second (nodeAt t n) earlier .bounds) (third (nodeAt t n) earlier .bounds)) (between (pos 0) (pos 0))
   unfolding deriveNode derivedOf
   none-used k z = bounds-row (nodeAt t n) _ _ _ _ k (op-is t n earlier o q known ∙ z)
 
   one-used : (k : ℕ) → o ≡ k → 2 ≤ o → deriveNode t n earlier .bounds
       ≡ byOperation k (boundsRules (nodeAt t n) (source t n earlier 1 .extents) (source t n earlier 1 .bounds) (second (nodeAt t n) earlier .bounds) (third (nodeAt t n) earlier .bounds)) (between (pos 0) (pos 0))
-  one-used k z h = none-used k z ∙ rw (first-is t n earlier o q known (uses-1 t n earlier o q known h)) refl
+  one-used k z h = none-used k z ∙ rw (first-is t n earlier o q known (reads-1 t n earlier o q known h)) refl
 
-  two-used : (k : ℕ) → o ≡ k → 9 ≤ o → o ≤ 18 → deriveNode t n earlier .bounds
+  two-used : (k : ℕ) → o ≡ k → ((9 ≤ o) × (o ≤ 18)) ⊎ ((o ≡ 21) ⊎ (o ≡ 23)) → deriveNode t n earlier .bounds
       ≡ byOperation k (boundsRules (nodeAt t n) (source t n earlier 1 .extents) (source t n earlier 1 .bounds) (source t n earlier 2 .bounds) (third (nodeAt t n) earlier .bounds)) (between (pos 0) (pos 0))
-  two-used k z h l = one-used k z (omega arith) ∙ rw (second-is t n earlier o q known (uses-2 t n earlier o q known h l)) refl
+  two-used k z h = one-used k z (from-two h) ∙ rw (second-is t n earlier o q known (reads-2 t n earlier o q known h)) refl
 
-  three-used : o ≡ 18 → deriveNode t n earlier .bounds
-      ≡ byOperation 18 (boundsRules (nodeAt t n) (source t n earlier 1 .extents) (source t n earlier 1 .bounds) (source t n earlier 2 .bounds) (source t n earlier 3 .bounds)) (between (pos 0) (pos 0))
-  three-used z = two-used 18 z (omega (arith, z)) (omega (arith, z)) ∙ rw (third-is t n earlier o q known (uses-3 t n earlier o q known z)) refl
+  three-used : (k : ℕ) → o ≡ k → ((9 ≤ o) × (o ≤ 18)) ⊎ ((o ≡ 21) ⊎ (o ≡ 23)) → (o ≡ 18) ⊎ ((o ≡ 23) × (word t n 5 ≡ pos 3)) → deriveNode t n earlier .bounds
+      ≡ byOperation k (boundsRules (nodeAt t n) (source t n earlier 1 .extents) (source t n earlier 1 .bounds) (source t n earlier 2 .bounds) (source t n earlier 3 .bounds)) (between (pos 0) (pos 0))
+  three-used k z h w = two-used k z h ∙ rw (third-is t n earlier o q known (reads-3 t n earlier o q known w)) refl
 
   two-at : (k : ℕ) → 9 ≤ k → k ≤ 17 → o ≡ k → deriveNode t n earlier .bounds
       ≡ byOperation k (boundsRules (nodeAt t n) (source t n earlier 1 .extents) (source t n earlier 1 .bounds) (source t n earlier 2 .bounds) (third (nodeAt t n) earlier .bounds)) (between (pos 0) (pos 0))
-  two-at k l h z = two-used k z (omega (arith, z)) (omega (arith, z))
+  two-at k l h z = two-used k z (inl (omega (arith, z), omega (arith, z)))
 
   kept-at : ((2 ≤ o) × (o ≤ 8)) ⊎ (o ≡ 20) → Between (deriveNode t n earlier .bounds) (source t n earlier 1 .bounds .low) (source t n earlier 1 .bounds .high)
   unfolding among
@@ -244,9 +269,24 @@ module _ (t : List ℤ) (n : ℕ) (earlier : List Derived) (o : ℕ) (q : word t
       then (λ z. ends (one-used 8 z (h .0))) then tt) (h .0) (omega (arith, h .1)) refl)
       (λ z. ends (one-used 20 z (omega (arith, z))))
 
+  -- with number 2 a STACK does not read word 3
+  of-two : o ≡ 23 → word t n 5 ≡ pos 2 → ReadsSource t n o 3 → ⊥
+  of-two z w u = absurd (omega (arith, number-is t n earlier 2 (omega arith) .1 w, number-is t n earlier 3 (omega arith) .1 (u .1 z refl)))
+
+  pair-at : o ≡ 23 → word t n 5 ≡ pos 2 → deriveNode t n earlier .bounds ≡ whereBounds (source t n earlier 1 .bounds) (source t n earlier 2 .bounds)
+  unfolding among stackBounds
+  pair-at z w =
+      two-used 23 z (inr (inr z)) ∙ ap (λ (has : Bool). stackBounds has a b (third (nodeAt t n) earlier .bounds)) (reads-not t n earlier o q known 3 (omega arith) (omega arith) (of-two z w))
+
+  triple-at : o ≡ 23 → word t n 5 ≡ pos 3 → deriveNode t n earlier .bounds ≡ whereBounds (whereBounds (source t n earlier 1 .bounds) (source t n earlier 2 .bounds)) (source t n earlier 3 .bounds)
+  unfolding among stackBounds
+  triple-at z w =
+      three-used 23 z (inr (inr z)) (inr (z, w))
+      ∙ ap (λ (has : Bool). stackBounds has a b c) (reads-says t n earlier o q known 3 (omega arith) (omega arith) .1 (reads-3 t n earlier o q known (inr (z, w))))
+
   module _ (flagged : gatheredCount (source t n earlier 1 .extents) (listOf (nodeAt t n .rowa)) ≡ flaggedProduct t n 9 (source t n earlier 1 .extents)) where
     bounds-are : BoundsAre t n o (source t n earlier 1 .bounds) (source t n earlier 2 .bounds) (source t n earlier 3 .bounds) (deriveNode t n earlier .bounds) (source t n earlier 1 .extents)
-    unfolding among addBounds mulBounds corners maxBounds idivBounds modBounds minBounds whereBounds reduceBounds sizeOf
+    unfolding among addBounds mulBounds corners maxBounds idivBounds modBounds minBounds whereBounds reduceBounds stackBounds sizeOf
     bounds-are =
         record {
           constant = λ z. let e = ends (none-used 0 z) in rw (number-word t n) at e;
@@ -266,9 +306,13 @@ module _ (t : List ℤ) (n : ℕ) (earlier : List Derived) (o : ℕ) (q : word t
           may-differ = λ z l m w. ends (two-at 15 (omega arith) (omega arith) z ∙ differs-row a b .2 l m w);
           and = λ z. rw (two-at 16 (omega arith) (omega arith) z) (min-of _ _, min-of _ _);
           or = λ z. rw (two-at 17 (omega arith) (omega arith) z) (max-of _ _, max-of _ _);
-          chosen = λ z. rw (three-used z) (min-of _ _, max-of _ _);
+          chosen = λ z. rw (three-used 18 z (inl (omega (arith, z), omega (arith, z))) (inl z)) (min-of _ _, max-of _ _);
           sum = λ z w. ends (one-used 19 z (omega (arith, z)) ∙ rw (number-word t n, w, flagged) refl);
           greatest = λ z w. ends (one-used 19 z (omega (arith, z)) ∙ rw (number-word t n, w) refl);
+          filled = λ z. rw (two-used 21 z (inr (inl z))) (min-of _ _, max-of _ _);
+          tells = λ z. ends (one-used 22 z (omega (arith, z)));
+          stack-two = λ z w. rw (pair-at z w) (min-of _ _, max-of _ _);
+          stack-three = λ z w. rw (triple-at z w) (least-of _ _ _, greatest-of _ _ _);
         }
 
   -- ---- its type
@@ -279,14 +323,18 @@ module _ (t : List ℤ) (n : ℕ) (earlier : List Derived) (o : ℕ) (q : word t
       record {
         named = ⊎-elim (λ z. word-4 (rw (is 0 z) refl)) (⊎-elim (λ z. word-4 (rw (is 1 z) refl)) (λ z. word-4 (rw (is 8 z) refl)));
         bool = λ low high. for-range (λ (k : ℕ). nodeAt t n .op ≡ k → deriveNode t n earlier .dtype ≡ 0) o 14 4 ((λ z. rw z refl) then (λ z. rw z refl) then (λ z. rw z refl) then (λ z. rw z refl) then tt) low (omega arith) op;
-        chosen = λ z. rw (← second-is t n earlier o q known (uses-2 t n earlier o q known (omega (arith, z)) (omega (arith, z))), is 18 z) refl;
+        tells = λ z. rw (is 22 z) refl;
+        chosen = λ z. rw (← second-is t n earlier o q known (reads-2 t n earlier o q known (inl (omega (arith, z), omega (arith, z)))), is 18 z) refl;
         kept = ⊎-elim
             (λ (m : (2 ≤ o) × (o ≤ 7)). first-type (m .0) (for-range (λ (k : ℕ). nodeAt t n .op ≡ k → deriveNode t n earlier .dtype ≡ first (nodeAt t n) earlier .dtype) o 2 6
             ((λ z. rw z refl) then (λ z. rw z refl) then (λ z. rw z refl) then (λ z. rw z refl) then (λ z. rw z refl) then (λ z. rw z refl) then tt) (m .0) (omega (arith, m .1)) op))
             (⊎-elim
             (λ (m : (9 ≤ o) × (o ≤ 13)). first-type (omega (arith, m .0)) (for-range (λ (k : ℕ). nodeAt t n .op ≡ k → deriveNode t n earlier .dtype ≡ first (nodeAt t n) earlier .dtype) o 9 5
             ((λ z. rw z refl) then (λ z. rw z refl) then (λ z. rw z refl) then (λ z. rw z refl) then (λ z. rw z refl) then tt) (m .0) (omega (arith, m .1)) op))
-            (⊎-elim (λ z. first-type (omega (arith, z)) (rw (is 19 z) refl)) (λ z. first-type (omega (arith, z)) (rw (is 20 z) refl))));
+            (⊎-elim
+            (λ (m : (19 ≤ o) × (o ≤ 21)). first-type (omega (arith, m .0)) (for-range (λ (k : ℕ). nodeAt t n .op ≡ k → deriveNode t n earlier .dtype ≡ first (nodeAt t n) earlier .dtype) o 19 3
+            ((λ z. rw z refl) then (λ z. rw z refl) then (λ z. rw z refl) then tt) (m .0) (omega (arith, m .1)) op))
+            (λ z. first-type (omega (arith, z)) (rw (is 23 z) refl))));
       }
     where
       op : nodeAt t n .op ≡ o
@@ -299,7 +347,7 @@ module _ (t : List ℤ) (n : ℕ) (earlier : List Derived) (o : ℕ) (q : word t
       word-4 e = ap pos (e ∙ dtype-size t n) ∙ sized (word t n 4) h
 
       first-type : 2 ≤ o → deriveNode t n earlier .dtype ≡ first (nodeAt t n) earlier .dtype → deriveNode t n earlier .dtype ≡ source t n earlier 1 .dtype
-      first-type m e = e ∙ ap (λ (d : Derived). d .dtype) (first-is t n earlier o q known (uses-1 t n earlier o q known m))
+      first-type m e = e ∙ ap (λ (d : Derived). d .dtype) (first-is t n earlier o q known (reads-1 t n earlier o q known m))
 
   -- ---- its device
 
@@ -309,11 +357,11 @@ module _ (t : List ℤ) (n : ℕ) (earlier : List Derived) (o : ℕ) (q : word t
       record {
         none = λ z. sym (device-none (nodeAt t n) _ _ _ (op ∙ z));
         named = ⊎-elim (λ z. word-6 (sym (device-param (nodeAt t n) _ _ _ (op ∙ z)))) (λ z. word-6 (sym (device-load (nodeAt t n) _ _ _ (op ∙ z))));
-        taken = λ low high k k1 k3 u z.
-            for-range (λ (j : ℕ). usesWord o j ≡ true → (source t n earlier j .device ≡ 0 → ⊥) → deriveNode t n earlier .device ≡ source t n earlier j .device) k 1 3
-            ((λ v y. joined low high ∙ all .0 (λ e. y (sym (d1 .0 v) ∙ e)) ∙ d1 .0 v) then (λ v y. joined low high ∙ all .1 (λ e. y (sym (d2 .0 v) ∙ e)) ∙ d2 .0 v)
-            then (λ v y. joined low high ∙ all .2 (λ e. y (sym (d3 .0 v) ∙ e)) ∙ d3 .0 v) then tt) k1 (omega arith) u z;
-        zero = λ low high w. joined low high ∙ all .3 (absent 1 d1 (w 1 (omega arith) (omega arith))) (absent 2 d2 (w 2 (omega arith) (omega arith))) (absent 3 d3 (w 3 (omega arith) (omega arith)));
+        taken = λ low other k k1 k3 u z.
+            for-range (λ (j : ℕ). ReadsSource t n o j → (source t n earlier j .device ≡ 0 → ⊥) → deriveNode t n earlier .device ≡ source t n earlier j .device) k 1 3
+            ((λ v y. joined low other ∙ all .0 (λ e. y (sym (d1 .0 v) ∙ e)) ∙ d1 .0 v) then (λ v y. joined low other ∙ all .1 (λ e. y (sym (d2 .0 v) ∙ e)) ∙ d2 .0 v)
+            then (λ v y. joined low other ∙ all .2 (λ e. y (sym (d3 .0 v) ∙ e)) ∙ d3 .0 v) then tt) k1 (omega arith) u z;
+        zero = λ low other w. joined low other ∙ all .3 (absent 1 (omega arith) (omega arith) d1 (w 1 (omega arith) (omega arith))) (absent 2 (omega arith) (omega arith) d2 (w 2 (omega arith) (omega arith))) (absent 3 (omega arith) (omega arith) d3 (w 3 (omega arith) (omega arith)));
       }
     where
       op : nodeAt t n .op ≡ o
@@ -331,14 +379,14 @@ module _ (t : List ℤ) (n : ℕ) (earlier : List Derived) (o : ℕ) (q : word t
       d3 : Device t n earlier o q known 3 (third (nodeAt t n) earlier .device)
       d3 = device-of t n earlier o q known 3 (nodeAt t n .source3) (omega arith) (omega arith) (third-node t n)
 
-      absent : {d : ℕ} (k : ℕ) → Device t n earlier o q known k d → (usesWord o k ≡ true → source t n earlier k .device ≡ 0) → d ≡ 0
-      absent k p w = bool-cases (usesWord o k) (λ u. p .0 u ∙ w u) (λ u. p .1 u)
+      absent : {d : ℕ} (k : ℕ) → 1 ≤ k → k ≤ 3 → Device t n earlier o q known k d → (ReadsSource t n o k → source t n earlier k .device ≡ 0) → d ≡ 0
+      absent k k1 k3 p w = reads-or t n earlier o q known k k1 k3 (λ u. p .0 u ∙ w u) (λ u. p .1 u)
 
       all : Joins (first (nodeAt t n) earlier .device) (second (nodeAt t n) earlier .device) (third (nodeAt t n) earlier .device)
       all = let s = agree-pairs _ _ _ (says-9 t n earlier o q known .1 rule) in joins _ _ _ (s .0) (s .1) (s .2)
 
-      joined : 2 ≤ o → o ≤ 19 → deriveNode t n earlier .device ≡ joinDevice (joinDevice (first (nodeAt t n) earlier .device) (second (nodeAt t n) earlier .device)) (third (nodeAt t n) earlier .device)
-      joined low high = sym (device-joined (nodeAt t n) _ _ _ (λ z. absurd (omega (arith, z, op))) (λ z. absurd (omega (arith, z, op))) (λ z. absurd (omega (arith, z, op))) (omega (arith, op)))
+      joined : 2 ≤ o → (o ≡ 20 → ⊥) → deriveNode t n earlier .device ≡ joinDevice (joinDevice (first (nodeAt t n) earlier .device) (second (nodeAt t n) earlier .device)) (third (nodeAt t n) earlier .device)
+      joined low other = sym (device-joined (nodeAt t n) _ _ _ (λ z. absurd (omega (arith, z, op))) (λ z. absurd (omega (arith, z, op))) (λ z. other (sym op ∙ z)) (is-operation t n earlier o q known))
 
   -- ---- its extents
 
@@ -347,14 +395,14 @@ module _ (t : List ℤ) (n : ℕ) (earlier : List Derived) (o : ℕ) (q : word t
   shape-at k z = shape-row (nodeAt t n) _ _ _ k (op-is t n earlier o q known ∙ z)
 
   shape-one : (k : ℕ) → o ≡ k → 2 ≤ o → deriveNode t n earlier .extents ≡ byOperation k (resultRules (nodeAt t n) (source t n earlier 1 .extents) (second (nodeAt t n) earlier .extents) (third (nodeAt t n) earlier .extents)) []
-  shape-one k z h = shape-at k z ∙ rw (first-is t n earlier o q known (uses-1 t n earlier o q known h)) refl
+  shape-one k z h = shape-at k z ∙ rw (first-is t n earlier o q known (reads-1 t n earlier o q known h)) refl
 
-  shape-two : (k : ℕ) → o ≡ k → 9 ≤ o → o ≤ 18 → deriveNode t n earlier .extents ≡ byOperation k (resultRules (nodeAt t n) (source t n earlier 1 .extents) (source t n earlier 2 .extents) (third (nodeAt t n) earlier .extents)) []
-  shape-two k z h l = shape-one k z (omega arith) ∙ rw (second-is t n earlier o q known (uses-2 t n earlier o q known h l)) refl
+  shape-two : (k : ℕ) → o ≡ k → ((9 ≤ o) × (o ≤ 18)) ⊎ ((o ≡ 21) ⊎ (o ≡ 23)) → deriveNode t n earlier .extents ≡ byOperation k (resultRules (nodeAt t n) (source t n earlier 1 .extents) (source t n earlier 2 .extents) (third (nodeAt t n) earlier .extents)) []
+  shape-two k z h = shape-one k z (from-two h) ∙ rw (second-is t n earlier o q known (reads-2 t n earlier o q known h)) refl
 
   shape-three : o ≡ 18 → deriveNode t n earlier .extents ≡ broadcast (broadcast (source t n earlier 1 .extents) (source t n earlier 2 .extents)) (source t n earlier 3 .extents)
   unfolding among
-  shape-three z = shape-two 18 z (omega (arith, z)) (omega (arith, z)) ∙ rw (third-is t n earlier o q known (uses-3 t n earlier o q known z)) refl
+  shape-three z = shape-two 18 z (inl (omega (arith, z), omega (arith, z))) ∙ rw (third-is t n earlier o q known (reads-3 t n earlier o q known (inl z))) refl
 
   module _ (ranked : length (source t n earlier 1 .extents) ≤ 4) (positive : (j k : ℕ) → 1 ≤ getD (source t n earlier j .extents) k 1) where
     abbrev s : List ℕ
@@ -373,8 +421,8 @@ module _ (t : List ℤ) (n : ℕ) (earlier : List Derived) (o : ℕ) (q : word t
         (λ (h : (4 ≤ o) × (o ≤ 7)).
         for-range (λ (k : ℕ). o ≡ k → r ≡ extentsOf (listOf (nodeAt t n .rowa))) o 4 4 (shape-at 4 then shape-at 5 then shape-at 6 then shape-at 7 then tt) (h .0) (omega (arith, h .1)) refl)
 
-    joined-at : (k : ℕ) → o ≡ k → 9 ≤ o → o ≤ 18 → byOperation k (resultRules (nodeAt t n) (source t n earlier 1 .extents) (source t n earlier 2 .extents) (third (nodeAt t n) earlier .extents)) [] ≡ broadcast (source t n earlier 1 .extents) (source t n earlier 2 .extents) → Joined (source t n earlier 1 .extents) (source t n earlier 2 .extents) (deriveNode t n earlier .extents)
-    joined-at k z l h e = rw (shape-two k z l h ∙ e) (joined s u (positive 1) (positive 2))
+    joined-at : (k : ℕ) → o ≡ k → ((9 ≤ o) × (o ≤ 18)) ⊎ ((o ≡ 21) ⊎ (o ≡ 23)) → byOperation k (resultRules (nodeAt t n) (source t n earlier 1 .extents) (source t n earlier 2 .extents) (third (nodeAt t n) earlier .extents)) [] ≡ broadcast (source t n earlier 1 .extents) (source t n earlier 2 .extents) → Joined (source t n earlier 1 .extents) (source t n earlier 2 .extents) (deriveNode t n earlier .extents)
+    joined-at k z h e = rw (shape-two k z h ∙ e) (joined s u (positive 1) (positive 2))
 
     small-word : {w : ℤ} (m : ℕ) → w ≡ pos m → sizeOf w ≡ m
     unfolding sizeOf
@@ -394,12 +442,14 @@ module _ (t : List ℤ) (n : ℕ) (earlier : List Derived) (o : ℕ) (q : word t
           none = shape-at 0;
           row = λ h x w. from-row h ∙ row-is t n 9 (listOf (nodeAt t n .rowa)) refl (row-a-at t n) x w;
           permuted = λ z. rw (shape-one 2 z (omega (arith, z))) (permuted-says s (listOf (nodeAt t n .rowa)) refl ranked, λ k m l w. permuted-at s (listOf (nodeAt t n .rowa)) refl ranked k m l (row-a-at t n k (omega arith) ∙ small-word m w));
-          same = ⊎-elim (λ z. shape-one 3 z (omega (arith, z))) (⊎-elim (λ z. shape-one 8 z (omega (arith, z))) (λ z. shape-one 20 z (omega (arith, z))));
+          same = ⊎-elim (λ z. shape-one 3 z (omega (arith, z))) (⊎-elim (λ z. shape-one 8 z (omega (arith, z))) (⊎-elim (λ z. shape-one 20 z (omega (arith, z))) (λ z. shape-one 22 z (omega (arith, z)))));
           two = λ low high.
               for-range (λ (k : ℕ). o ≡ k → Joined s u r) o 9 9
-              ((λ z. joined-at 9 z low (omega arith) refl) then (λ z. joined-at 10 z low (omega arith) refl) then (λ z. joined-at 11 z low (omega arith) refl) then (λ z. joined-at 12 z low (omega arith) refl) then (λ z. joined-at 13 z low (omega arith) refl) then (λ z. joined-at 14 z low (omega arith) refl) then (λ z. joined-at 15 z low (omega arith) refl) then (λ z. joined-at 16 z low (omega arith) refl) then (λ z. joined-at 17 z low (omega arith) refl) then tt) low (omega arith) refl;
+              ((λ z. joined-at 9 z (inl (low, omega arith)) refl) then (λ z. joined-at 10 z (inl (low, omega arith)) refl) then (λ z. joined-at 11 z (inl (low, omega arith)) refl) then (λ z. joined-at 12 z (inl (low, omega arith)) refl) then (λ z. joined-at 13 z (inl (low, omega arith)) refl) then (λ z. joined-at 14 z (inl (low, omega arith)) refl) then (λ z. joined-at 15 z (inl (low, omega arith)) refl) then (λ z. joined-at 16 z (inl (low, omega arith)) refl) then (λ z. joined-at 17 z (inl (low, omega arith)) refl) then tt) low (omega arith) refl;
           three = λ z. (broadcast s u, joined s u (positive 1) (positive 2), rw (shape-three z) (joined (broadcast s u) (source t n earlier 3 .extents) (broadcast-positive s u (positive 1) (positive 2)) (positive 3)));
           reduced = λ z. rw (shape-one 19 z (omega (arith, z))) (reduced-length s (listOf (nodeAt t n .rowa)), λ k l. flag-word k l (reduced-at s (listOf (nodeAt t n .rowa)) k l));
+          filled = λ z. joined-at 21 z (inr (inl z)) refl;
+          stacked = λ z m w. shape-one 23 z (omega (arith, z)) ∙ ap (λ (j : ℕ). j ∷ s) (ap sizeOf (number-word t n) ∙ small-word m w);
         }
 
 -- ---- all of it

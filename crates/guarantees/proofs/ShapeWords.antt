@@ -1,12 +1,13 @@
 -- Rule 8: the tests of shapes, and what they say axis by axis.
 use Prim.Native.Nat.{ℕ, _+_, _-_, _<_, _≤_, max}
 use mathlib.Core.Path.{_≡_, refl, sym, _∙_}
-use mathlib.Core.Bool.{Bool, true, false, _&&_, _||_}
+use mathlib.Core.Bool.{Bool, true, false, _&&_, _||_, not}
 use mathlib.Core.Logic.{_⊎_, inl, inr, ⊎-elim}
 use mathlib.Core.List.{List}
 use native.Mathlib.Omega.{arith}
 use borrow.Author.Tests.{eqb-true, eq-eqb, ltb-true, ltb-false, leb-true, le-leb}
 use lib.Dec.{eqb, ltb, leb}
+use lib.IntN.{ℤ, pos}
 use lib.ListN.{length, getD}
 use Rattle.laws.specs.Lists.{among}
 use Rattle.laws.specs.Numbering.{count}
@@ -14,12 +15,14 @@ use Rattle.laws.proofs.Booleans.{bool-cases, and-true, and-true-of, or-true, al
 use Rattle.laws.proofs.Lists.{getD-tab}
 use Rattle.plan.specs.declared.Node.{Node}
 use Rattle.plan.specs.Operations.{byOperation}
-use Rattle.plan.specs.Words.{listOf}
+use Rattle.plan.specs.Words.{listOf, reads}
 use Rattle.plan.proofs.ByOperation.{_then_, for-range}
 use Rattle.shapes.specs.Rows.{extentsOf}
-use Rattle.shapes.specs.Rules.{extent, wordOf, sameRank, aligned, equalOrOne, canBroadcast, broadcast, shapeRules, shapesAgree}
+use Rattle.shapes.specs.Rules.{extent, wordOf, sameRank, aligned, equalOrOne, canBroadcast, broadcast, sameShape, shapeRules, shapesAgree}
 use Rattle.shapes.proofs.Broadcast.{aligned-at, aligned-front}
 use Rattle.shapes.proofs.Extents.{broadcast-length}
+use Rattle.shapes.proofs.Stacking.{same-shape, stack-agree, stack-second, stack-third, stack-rank}
+use Rattle.guarantees.specs.Demand3.{word}
 use Rattle.guarantees.specs.Rules.{Exactly, fromLast, Broadcasts, Rule8}
 
 -- ---- two extents
@@ -147,20 +150,22 @@ module _ (s t u : List ℕ) (ps : (k : ℕ) → 1 ≤ getD s k 1) (pt : (k : ℕ
 -- ---- the operations by the rows of rule 8
 
 data Row8 (o : ℕ) : Type 0 where
-  free : (o < 4) ⊎ ((o ≡ 8) ⊎ ((o ≡ 19) ⊎ (o ≡ 20))) → Row8 o
+  free : (o < 4) ⊎ ((o ≡ 8) ⊎ ((o ≡ 19) ⊎ ((o ≡ 20) ⊎ (o ≡ 22)))) → Row8 o
   reshapes : o ≡ 4 → Row8 o
   expands : o ≡ 5 → Row8 o
   pads : o ≡ 6 → Row8 o
   shrinks : o ≡ 7 → Row8 o
   two : 9 ≤ o → o ≤ 17 → Row8 o
   three : o ≡ 18 → Row8 o
+  fills : o ≡ 21 → Row8 o
+  stacks : o ≡ 23 → Row8 o
 
-which : (o : ℕ) → o ≤ 20 → Row8 o
+which : (o : ℕ) → o ≤ 23 → Row8 o
 which o h =
-    for-range Row8 o 0 21
+    for-range Row8 o 0 24
     (free (inl (omega arith)) then free (inl (omega arith)) then free (inl (omega arith)) then free (inl (omega arith)) then reshapes refl then expands refl then pads refl then shrinks refl then free (inr (inl refl))
     then two (omega arith) (omega arith) then two (omega arith) (omega arith) then two (omega arith) (omega arith) then two (omega arith) (omega arith) then two (omega arith) (omega arith) then two (omega arith) (omega arith)
-    then two (omega arith) (omega arith) then two (omega arith) (omega arith) then two (omega arith) (omega arith) then three refl then free (inr (inr (inl refl))) then free (inr (inr (inr refl))) then tt) (omega arith) (omega arith)
+    then two (omega arith) (omega arith) then two (omega arith) (omega arith) then two (omega arith) (omega arith) then three refl then free (inr (inr (inl refl))) then free (inr (inr (inr (inl refl)))) then fills refl then free (inr (inr (inr (inr refl)))) then stacks refl then tt) (omega arith) (omega arith)
 
 -- same rank, and a test of each axis
 axes-say : (s r : List ℕ) (p : ℕ → Bool) (P : ℕ → Type 0) → ((k : ℕ) → k < length s → Exactly (p k ≡ true) (P k)) → Exactly (sameRank s r p ≡ true) ((length s ≡ length r) × ((k : ℕ) → k < length s → P k))
@@ -176,11 +181,19 @@ one-or a b = (
   ⊎-elim (λ z. rw (eq-eqb a 1 z) refl) (λ z. bool-cases (eqb a 1) (λ y. rw y refl) (λ y. rw (y, eq-eqb a b z) refl)),
 )
 
+shape-says : (s t : List ℕ) → Exactly (sameShape s t ≡ true) (t ≡ s)
+unfolding sameShape
+shape-says s t = (
+  same-shape s t,
+  λ e. rw e (axes-say s s _ (λ (k : ℕ). getD s k 1 ≡ getD s k 1) (λ k l. (λ _. refl, λ _. eq-eqb (getD s k 1) (getD s k 1) refl)) .1 (refl, λ k l. refl)),
+)
+
 at-most : (a b : ℕ) → Exactly (leb a b ≡ true) (a ≤ b)
 at-most a b = (leb-true a b, le-leb a b)
 
-module _ (x : Node) (o : ℕ) (is : x .op ≡ o) (known : o ≤ 20) (s t u r : List ℕ) (offset : ℕ → ℕ) (ps : (k : ℕ) → 1 ≤ getD s k 1) (pt : (k : ℕ) → 1 ≤ getD t k 1)
-    (row : 4 ≤ o → o ≤ 7 → extentsOf (listOf (x .rowa)) ≡ r) (offsets : (o ≡ 6) ⊎ (o ≡ 7) → (k : ℕ) → k < length s → wordOf (listOf (x .rowb)) k ≡ offset k) where
+module _ (table : List ℤ) (n : ℕ) (x : Node) (o : ℕ) (is : x .op ≡ o) (known : o ≤ 23) (s t u r : List ℕ) (offset : ℕ → ℕ) (ps : (k : ℕ) → 1 ≤ getD s k 1) (pt : (k : ℕ) → 1 ≤ getD t k 1)
+    (row : 4 ≤ o → o ≤ 7 → extentsOf (listOf (x .rowa)) ≡ r) (offsets : (o ≡ 6) ⊎ (o ≡ 7) → (k : ℕ) → k < length s → wordOf (listOf (x .rowb)) k ≡ offset k)
+    (third : o ≡ 23 → Exactly (reads x 3 ≡ true) (word table n 5 ≡ pos 3)) where
   row-4 : o ≡ 4 → shapesAgree x s t u ≡ eqb (count s) (count r)
   unfolding shapesAgree among
   row-4 z = rw (is, z, row (omega (arith, z)) (omega (arith, z))) refl
@@ -200,20 +213,23 @@ module _ (x : Node) (o : ℕ) (is : x .op ≡ o) (known : o ≤ 20) (s t u r : L
   row-two : 9 ≤ o → o ≤ 17 → shapesAgree x s t u ≡ canBroadcast s t
   unfolding shapesAgree among
   row-two low high =
-      rw is
-      (for-range (λ (k : ℕ). byOperation k (shapeRules x s t u) false ≡ canBroadcast s t) o 9 9
-      (refl then refl then refl then refl then refl then refl then refl then refl then refl then tt) low (omega arith))
+      for-range (λ (k : ℕ). byOperation k (shapeRules x s t u) false ≡ canBroadcast s t) (x .op) 9 9
+      (refl then refl then refl then refl then refl then refl then refl then refl then refl then tt) (rw is low) (rw is (omega arith))
 
   row-18 : o ≡ 18 → shapesAgree x s t u ≡ (canBroadcast s t && canBroadcast (broadcast s t) u)
   unfolding shapesAgree among
   row-18 z = rw (is, z) refl
 
-  row-free : (o < 4) ⊎ ((o ≡ 8) ⊎ ((o ≡ 19) ⊎ (o ≡ 20))) → shapesAgree x s t u ≡ true
+  row-21 : o ≡ 21 → shapesAgree x s t u ≡ canBroadcast s t
+  unfolding shapesAgree among
+  row-21 z = rw (is, z) refl
+
+  row-free : (o < 4) ⊎ ((o ≡ 8) ⊎ ((o ≡ 19) ⊎ ((o ≡ 20) ⊎ (o ≡ 22)))) → shapesAgree x s t u ≡ true
   unfolding shapesAgree among
   row-free =
       ⊎-elim
-      (λ l. rw is (for-range (λ (k : ℕ). byOperation k (shapeRules x s t u) false ≡ true) o 0 4 (refl then refl then refl then refl then tt) (omega arith) l))
-      (⊎-elim (λ z. rw (is, z) refl) (⊎-elim (λ z. rw (is, z) refl) (λ z. rw (is, z) refl)))
+      (λ (l : o < 4). for-range (λ (k : ℕ). byOperation k (shapeRules x s t u) false ≡ true) (x .op) 0 4 (refl then refl then refl then refl then tt) (omega arith) (rw is l))
+      (⊎-elim (λ z. rw (is, z) refl) (⊎-elim (λ z. rw (is, z) refl) (⊎-elim (λ z. rw (is, z) refl) (λ z. rw (is, z) refl))))
 
   expand-says : Exactly (sameRank s r (λ (k : ℕ). eqb (extent s k) 1 || eqb (extent s k) (extent r k)) ≡ true) ((length s ≡ length r) × ((k : ℕ) → k < length s → (getD s k 1 ≡ 1) ⊎ (getD s k 1 ≡ getD r k 1)))
   expand-says = axes-say s r _ _ (λ k l. one-or (getD s k 1) (getD r k 1))
@@ -224,7 +240,16 @@ module _ (x : Node) (o : ℕ) (is : x .op ≡ o) (known : o ≤ 20) (s t u r : L
   shrink-says : o ≡ 7 → Exactly (sameRank s r (λ (k : ℕ). leb (wordOf (listOf (x .rowb)) k + extent r k) (extent s k)) ≡ true) ((length s ≡ length r) × ((k : ℕ) → k < length s → offset k + getD r k 1 ≤ getD s k 1))
   shrink-says z = axes-say s r _ _ (λ k l. rw (offsets (inr z) k l) (at-most (offset k + getD r k 1) (getD s k 1)))
 
-  pub shapes-say : Exactly (shapesAgree x s t u ≡ true) (Rule8 o s t u r offset)
+  stack-says : o ≡ 23 → Exactly (shapesAgree x s t u ≡ true) ((t ≡ s) × (length s ≤ 3) × (word table n 5 ≡ pos 3 → u ≡ s))
+  stack-says z = (
+    λ e. (stack-second x s t u (is ∙ z) e, stack-rank x s t u (is ∙ z) e, λ w. stack-third x s t u (is ∙ z) e (third z .1 w)),
+    λ w.
+        stack-agree x s t u (is ∙ z)
+        ∙ and-true-of (sameShape s t) _ (shape-says s t .1 (w .0))
+        (and-true-of (not (reads x 3) || sameShape s u) (leb (length s) 3) (bool-cases (reads x 3) (λ b. rw b (shape-says s u .1 (w .2 (third z .0 b)))) (λ b. rw b refl)) (le-leb (length s) 3 (w .1))),
+  )
+
+  pub shapes-say : Exactly (shapesAgree x s t u ≡ true) (Rule8 table n o s t u r offset)
   shapes-say = (
     λ e.
         record {
@@ -234,11 +259,14 @@ module _ (x : Node) (o : ℕ) (is : x .op ≡ o) (known : o ≤ 20) (s t u r : L
           shrink = λ z. shrink-says z .0 (sym (row-7 z) ∙ e);
           two = λ low high. broadcast-says s t .0 (sym (row-two low high) ∙ e);
           three = λ z. three-say s t u ps pt .0 (sym (row-18 z) ∙ e);
+          fill = λ z. broadcast-says s t .0 (sym (row-21 z) ∙ e);
+          stack = λ z. let w = stack-says z .0 e in (w .0, w .1);
+          stack-third = λ z. stack-says z .0 e .2;
         },
     λ w. decided w (which o known),
   )
     where
-      decided : Rule8 o s t u r offset → Row8 o → shapesAgree x s t u ≡ true
+      decided : Rule8 table n o s t u r offset → Row8 o → shapesAgree x s t u ≡ true
       decided w (free z) = row-free z
       decided w (reshapes z) = row-4 z ∙ eq-eqb _ _ (w .reshape z)
       decided w (expands z) = row-5 z ∙ expand-says .1 (w .expand z)
@@ -246,3 +274,5 @@ module _ (x : Node) (o : ℕ) (is : x .op ≡ o) (known : o ≤ 20) (s t u r : L
       decided w (shrinks z) = row-7 z ∙ shrink-says z .1 (w .shrink z)
       decided w (two low high) = row-two low high ∙ broadcast-says s t .1 (w .two low high)
       decided w (three z) = row-18 z ∙ three-say s t u ps pt .1 (w .three z)
+      decided w (fills z) = row-21 z ∙ broadcast-says s t .1 (w .fill z)
+      decided w (stacks z) = stack-says z .1 (w .stack z .0, w .stack z .1, w .stack-third z)

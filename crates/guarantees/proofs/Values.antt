@@ -1,16 +1,20 @@
 -- What each element of a node is.
-use Prim.Native.Nat.{ℕ, zero, suc, _+_, _<_, _≤_}
+use Prim.Native.Nat.{ℕ, zero, suc, _+_, _*_, _-_, _/_, _%_, _<_, _≤_}
 use mathlib.Core.Path.{_≡_, refl, ap, sym, _∙_, subst}
 use mathlib.Core.Bool.{true}
 use mathlib.Core.Logic.{_⊎_, inl, inr, ⊎-elim}
 use mathlib.Core.Option.{Option, none, some}
 use mathlib.Core.List.{List, [], _∷_, map}
 use native.Mathlib.Omega.{arith}
+use borrow.Author.Tests.{ltb-true, ltb-false, eqb-true, eqb-false, eq-eqb}
+use lib.Arith.{digits-div, digits-mod}
+use lib.Dec.{eqb, ltb}
 use lib.IntN.{ℤ, pos, _+ℤ_}
 use lib.Signed.{_≤ℤ_, ltZ}
 use lib.ListN.{length, getD, take, length-map}
 use lib.Seq.{getD-drop}
 use Rattle.laws.specs.Lists.{among}
+use Rattle.laws.specs.Numbering.{count}
 use Rattle.laws.specs.Integers.{sameZ, maxZ, floorDiv, floorMod}
 use Rattle.laws.proofs.Booleans.{bool-cases}
 use Rattle.laws.proofs.Extremes.{minZ-of, maxZ-of, minZ-le-left, minZ-le-right, le-maxZ-left, le-maxZ-right}
@@ -22,28 +26,32 @@ use Rattle.plan.specs.declared.Node.{Node}
 use Rattle.plan.specs.declared.NodeNumber.{NodeNumber}
 use Rattle.plan.specs.declared.ElementNumber.{ElementNumber}
 use Rattle.plan.specs.Operations.{uses, followed, binaries, byOperation}
-use Rattle.plan.specs.Words.{sizeOf, nodeAt, listOf, element}
+use Rattle.plan.specs.Words.{sizeOf, nodeAt, listOf, reads, element}
 use Rattle.plan.specs.Answers.{accepted}
-use Rattle.plan.proofs.ByOperation.{_then_, for-range, followed-uses}
-use Rattle.shapes.specs.Rules.{reduced, resultExtents}
+use Rattle.plan.proofs.ByOperation.{_then_, for-range, reads-low, reads-plain, stack-reads, followed-reads}
+use Rattle.shapes.specs.Rules.{reduced, shapesAgree, resultExtents}
 use Rattle.shapes.specs.Sources.{sourceElement, broadcastSource, gathered}
 use Rattle.shapes.specs.Coordinates.{Followed, NewCell}
-use Rattle.shapes.proofs.Broadcast.{Spreads, binary-spreads, where-spreads}
+use Rattle.shapes.proofs.Broadcast.{Spreads, binary-spreads, fill-spreads, where-spreads}
 use Rattle.shapes.proofs.Coordinates.{followed-is, broadcast-from, source-none, source-from, gathers}
+use Rattle.shapes.proofs.Stacking.{stack-second, stack-third, stack-extents, stacked-from}
 use Rattle.rules.specs.Rules.{Derived, noSource, sourceOf}
+use Rattle.rules.proofs.RowRule.{stack-rule}
 use Rattle.verifier.specs.Check.{first, second, third, verdict}
-use Rattle.verifier.proofs.Nodes.{permutation-row, shapes-agree, extents-derived, source1-before, source2-before, source3-before, source-is}
-use Rattle.cells.specs.Cells.{Cell, known, gap, Field, cellAt, cellFrom, both, whereCell, foldCells, reduceCells, binary, reduction}
+use Rattle.verifier.proofs.Nodes.{permutation-row, rows-right, shapes-agree, extents-derived, source1-before, source2-before, source3-before, source-is}
+use Rattle.cells.specs.Cells.{Cell, known, gap, Field, cellAt, cellFrom, both, whereCell, fillCell, knownCell, foldCells, reduceCells, binary, reduction}
 use Rattle.cells.specs.Nodes.{Operands, cellRules, broadcastCell, evalCell}
+use Rattle.cells.proofs.Stacks.{first-cell, second-cell, third-cell}
 use Rattle.runner.specs.Inputs.{inputStart, inputTotal, inputCell, inputCells}
 use Rattle.runner.specs.Run.{fieldOf, operandsOf, fieldsTo}
 use Rattle.runner.proofs.Fields.{field-cell, field-extents, source-field}
 use Rattle.runner.proofs.Inputs.{start-more}
 use Rattle.guarantees.specs.Demand3.{Lent, word, asCount, rowFrom, elements, fieldAt, resultAt}
-use Rattle.guarantees.specs.Values.{Floor, Gives, total, sourceCell, Moved, from, new, Under, Computed, Chosen, Reduced, EveryValue}
+use Rattle.guarantees.specs.Values.{Floor, Gives, total, sourceCell, Moved, from, new, Under, Computed, Chosen, Reduced, Overlaid, Tells, Stacked, EveryValue}
 use Rattle.guarantees.proofs.Nodes.{rules, source-extents}
 use Rattle.guarantees.proofs.Lookups.{followed-cell}
-use Rattle.guarantees.proofs.Words.{op-of, first-node, second-node, third-node, number-word, row-a, row-b}
+use Rattle.guarantees.proofs.Words.{size-is, op-of, first-node, second-node, third-node, number-word, row-a, row-b}
+use Rattle.guarantees.proofs.RowWords.{size-below}
 
 -- ---- the number that two known numbers give
 
@@ -187,6 +195,12 @@ gap-reduce op [] s g = absurd (omega arith)
 gap-reduce op (c ∷ cs) s g =
     ⊎-elim (λ a. (0, omega arith, a)) (λ w. (suc (w .0), omega (arith, w .1), w .2)) (gap-fold op cs c g)
 
+-- ---- FILL
+
+fill-gap : (a b : Cell) → fillCell a b ≡ gap → (a ≡ gap) × (b ≡ gap)
+fill-gap (known z) b g = absurd (known-not-gap g)
+fill-gap gap b g = (refl, g)
+
 -- ---- the row of an operation
 
 module _ (x : Node) (r : List ℕ) (s : Operands) (e : ElementNumber) where
@@ -211,13 +225,17 @@ module _ (t : List ℤ) (ds : List Derived) (x : Lent) (v : verdict t ≡ accept
   abbrev r : List ℕ
   r = getD ds n noSource .extents
 
-  -- source k, whose number s is word k: its record, its field and its extents
-  module _ (k : ℕ) (s : NodeNumber) (used : uses (nodeAt t n .op) k ≡ true) (before : s .0 < n) where
-    source-record : sourceOf (take n ds) (nodeAt t n .op) k s ≡ getD ds (s .0) noSource
-    source-record = source-is ds n op k s used before
+  -- a source that the operation uses, with a word other than 3, is read
+  one-read : (k : ℕ) → (k ≡ 3 → ⊥) → uses (nodeAt t n .op) k ≡ true → reads (nodeAt t n) k ≡ true
+  one-read k other u = reads-low (nodeAt t n) k other ∙ u
 
-    the-field : fieldOf (fieldsTo t ds (inputCells (x .values) (x .flags)) n) (nodeAt t n .op) k s ≡ fieldAt t ds x (s .0)
-    the-field = source-field t ds input (length ds) n op k s (omega arith) used before
+  -- source k, whose number s is word k: its record, its field and its extents
+  module _ (k : ℕ) (s : NodeNumber) (used : reads (nodeAt t n) k ≡ true) (before : s .0 < n) where
+    source-record : sourceOf (take n ds) (nodeAt t n) k s ≡ getD ds (s .0) noSource
+    source-record = source-is ds n (nodeAt t n) k s used before
+
+    the-field : fieldOf (fieldsTo t ds (inputCells (x .values) (x .flags)) n) (nodeAt t n) k s ≡ fieldAt t ds x (s .0)
+    the-field = source-field t ds input (length ds) n (nodeAt t n) k s (omega arith) used before
 
     the-extents : fieldAt t ds x (s .0) .extents ≡ getD ds (s .0) noSource .extents
     the-extents = field-extents t ds input (length ds) (s .0) (omega arith)
@@ -244,9 +262,10 @@ module _ (t : List ℤ) (ds : List Derived) (x : Lent) (v : verdict t ≡ accept
     unfolding evalCell among operandsOf uses
     is-kept q =
         let p = op-of t n 8 q in
-        let u : uses op 1 ≡ true = rw p refl in
+        let u = one-read 1 (λ y. absurd (omega (arith, y))) (rw p refl) in
         let s = source1-before t n (take n ds) _ (rules t ds v n h) u in
-        here-is ∙ rw p (ap (λ (f : Field). cellAt f e) (rw p at (the-field 1 (nodeAt t n .source1) u s)) ∙ rw (first-node t n) refl)
+        let row : evalCell (nodeAt t n) r operands e ≡ cellAt (operands .a) e = rw p refl in
+        here-is ∙ row ∙ ap (λ (f : Field). cellAt f e) (the-field 1 (nodeAt t n .source1) u s) ∙ rw (first-node t n) refl
 
     -- ---- movement
 
@@ -255,7 +274,7 @@ module _ (t : List ℤ) (ds : List Derived) (x : Lent) (v : verdict t ≡ accept
     is-moved o q followed-o =
         let p : op ≡ o = op-of t n o q in
         let f : among op followed ≡ true = rw p (followed-is followed-o) in
-        let u = followed-uses op f in
+        let u = followed-reads (nodeAt t n) f in
         let s = source1-before t n (take n ds) _ (rules t ds v n h) u in
         let same = the-field 1 (nodeAt t n .source1) u s in
         let cell = here-is ∙ followed-cell (nodeAt t n) r operands e f ∙ ap (λ (g : Field). cellFrom g (sourceElement (nodeAt t n) (g .extents) r e)) same in
@@ -278,16 +297,42 @@ module _ (t : List ℤ) (ds : List Derived) (x : Lent) (v : verdict t ≡ accept
     -- ---- operands that are broadcast
 
     -- the element of a source that is read, and its cell
-    module _ (k : ℕ) (s : NodeNumber) (used : uses (nodeAt t n .op) k ≡ true) (before : s .0 < n) (w : s .0 ≡ asCount (word t n k))
-        (spreads : Spreads (sourceOf (take n ds) (nodeAt t n .op) k s .extents) (getD ds n noSource .extents)) where
+    module _ (k : ℕ) (s : NodeNumber) (used : reads (nodeAt t n) k ≡ true) (before : s .0 < n) (w : s .0 ≡ asCount (word t n k))
+        (spreads : Spreads (sourceOf (take n ds) (nodeAt t n) k s .extents) (getD ds n noSource .extents)) where
       read-under : Under t ds x n e k (broadcastSource (getD ds (s .0) noSource .extents) (getD ds n noSource .extents) e)
       read-under =
           let at = broadcast-from (rw (source-record k s used before) at spreads) e l in
           record { inside = rw (← w) (at .0); aligned = rw (← w) (at .1) }
 
-      read-cell : broadcastCell (fieldOf (fieldsTo t ds (inputCells (x .values) (x .flags)) n) (nodeAt t n .op) k s) (getD ds n noSource .extents) e
+      read-cell : broadcastCell (fieldOf (fieldsTo t ds (inputCells (x .values) (x .flags)) n) (nodeAt t n) k s) (getD ds n noSource .extents) e
           ≡ sourceCell t ds x n e k (broadcastSource (getD ds (s .0) noSource .extents) (getD ds n noSource .extents) e)
       read-cell = rw (the-field k s used before, the-extents k s used before, w) refl
+
+    -- two of them: their elements and cells
+    module _ (u1 : reads (nodeAt t n) 1 ≡ true) (u2 : reads (nodeAt t n) 2 ≡ true)
+        (spread : Spreads (first (nodeAt t n) (take n ds) .extents) (resultExtents (nodeAt t n) (first (nodeAt t n) (take n ds) .extents) (second (nodeAt t n) (take n ds) .extents) (third (nodeAt t n) (take n ds) .extents)) × Spreads (second (nodeAt t n) (take n ds) .extents) (resultExtents (nodeAt t n) (first (nodeAt t n) (take n ds) .extents) (second (nodeAt t n) (take n ds) .extents) (third (nodeAt t n) (take n ds) .extents))) where
+      s1 : nodeAt t n .source1 .0 < n
+      s1 = source1-before t n (take n ds) _ (rules t ds v n h) u1
+
+      s2 : nodeAt t n .source2 .0 < n
+      s2 = source2-before t n (take n ds) _ (rules t ds v n h) u2
+
+      shape : getD ds n noSource .extents ≡ resultExtents (nodeAt t n) (first (nodeAt t n) (take n ds) .extents) (second (nodeAt t n) (take n ds) .extents) (third (nodeAt t n) (take n ds) .extents)
+      shape = extents-derived t n (take n ds) (getD ds n noSource) (rules t ds v n h)
+
+      first-under : Under t ds x n e 1 (broadcastSource (getD ds (nodeAt t n .source1 .0) noSource .extents) (getD ds n noSource .extents) e)
+      first-under = read-under 1 (nodeAt t n .source1) u1 s1 (first-node t n) (rw (← shape) at (spread .0))
+
+      second-under : Under t ds x n e 2 (broadcastSource (getD ds (nodeAt t n .source2 .0) noSource .extents) (getD ds n noSource .extents) e)
+      second-under = read-under 2 (nodeAt t n .source2) u2 s2 (second-node t n) (rw (← shape) at (spread .1))
+
+      two-cells : (f : Cell → Cell → Cell) → evalCell (nodeAt t n) (getD ds n noSource .extents) (operandsOf t ds (inputCells (x .values) (x .flags)) n (fieldsTo t ds (inputCells (x .values) (x .flags)) n)) e
+          ≡ f (broadcastCell (operandsOf t ds (inputCells (x .values) (x .flags)) n (fieldsTo t ds (inputCells (x .values) (x .flags)) n) .a) (getD ds n noSource .extents) e) (broadcastCell (operandsOf t ds (inputCells (x .values) (x .flags)) n (fieldsTo t ds (inputCells (x .values) (x .flags)) n) .b) (getD ds n noSource .extents) e)
+          → resultAt t ds x n e ≡ f (sourceCell t ds x n e 1 (broadcastSource (getD ds (nodeAt t n .source1 .0) noSource .extents) (getD ds n noSource .extents) e)) (sourceCell t ds x n e 2 (broadcastSource (getD ds (nodeAt t n .source2 .0) noSource .extents) (getD ds n noSource .extents) e))
+      unfolding operandsOf
+      two-cells f row =
+          here-is ∙ row
+          ∙ rw (read-cell 1 (nodeAt t n .source1) u1 s1 (first-node t n) (rw (← shape) at (spread .0)), read-cell 2 (nodeAt t n .source2) u2 s2 (second-node t n) (rw (← shape) at (spread .1))) refl
 
     module _ (o : ℕ) (q : word t n 0 ≡ pos o) (low : 9 ≤ o) (high : o ≤ 17) where
       used-both : (uses (nodeAt t n .op) 1 ≡ true) × (uses (nodeAt t n .op) 2 ≡ true) × (among (nodeAt t n .op) binaries ≡ true)
@@ -299,37 +344,162 @@ module _ (t : List ℤ) (ds : List Derived) (x : Lent) (v : verdict t ≡ accept
           low (omega arith))
 
       is-computed : Computed t ds x n e o
-      unfolding operandsOf
       is-computed =
           let p : op ≡ o = op-of t n o q in
-          let s1 = source1-before t n (take n ds) _ (rules t ds v n h) (used-both .0) in
-          let s2 = source2-before t n (take n ds) _ (rules t ds v n h) (used-both .1) in
+          let u1 = one-read 1 (λ y. absurd (omega (arith, y))) (used-both .0) in
+          let u2 = one-read 2 (λ y. absurd (omega (arith, y))) (used-both .1) in
           let spread = binary-spreads (nodeAt t n) _ _ (third (nodeAt t n) (take n ds) .extents) (source-extents t ds v n h 1 (nodeAt t n .source1) .positive) (source-extents t ds v n h 2 (nodeAt t n .source2) .positive) (shapes-agree t n (take n ds) _ (rules t ds v n h)) (used-both .2) in
-          let shape = extents-derived t n (take n ds) (getD ds n noSource) (rules t ds v n h) in
-          let f1 = rw (← shape) at (spread .0) in
-          let f2 = rw (← shape) at (spread .1) in
-          let a = read-cell 1 (nodeAt t n .source1) (used-both .0) s1 (first-node t n) f1 in
-          let b = read-cell 2 (nodeAt t n .source2) (used-both .1) s2 (second-node t n) f2 in
-          let m1 = broadcastSource (getD ds (nodeAt t n .source1 .0) noSource .extents) r e in
-          let m2 = broadcastSource (getD ds (nodeAt t n .source2 .0) noSource .extents) r e in
-          let cell : resultAt t ds x n e ≡ both (binary o) (sourceCell t ds x n e 1 m1) (sourceCell t ds x n e 2 m2) = here-is ∙ computed-cell (nodeAt t n) r operands e (rw p low) (rw p high) ∙ rw (a, b, p) refl in
+          let cell = two-cells u1 u2 spread (both (binary o)) (computed-cell (nodeAt t n) r operands e (rw p low) (rw p high) ∙ ap (λ (k : ℕ). both (binary k) (broadcastCell (operands .a) r e) (broadcastCell (operands .b) r e)) p) in
           record {
-            first = m1;
-            second = m2;
-            under-first = read-under 1 (nodeAt t n .source1) (used-both .0) s1 (first-node t n) f1;
-            under-second = read-under 2 (nodeAt t n .source2) (used-both .1) s2 (second-node t n) f2;
+            first = broadcastSource (getD ds (nodeAt t n .source1 .0) noSource .extents) r e;
+            second = broadcastSource (getD ds (nodeAt t n .source2 .0) noSource .extents) r e;
+            under-first = first-under u1 u2 spread;
+            under-second = second-under u1 u2 spread;
             number = λ u w ku kw. (binary o u w, cell ∙ rw (ku, kw) refl, gives o u w);
             if-gap = λ g. cell ∙ both-gap (binary o) _ _ g;
             only-gap = λ g. gap-both (binary o) _ _ (sym cell ∙ g);
           }
 
+    -- FILL
+    is-overlaid : word t n 0 ≡ pos 21 → Overlaid t ds x n e
+    unfolding evalCell among uses
+    is-overlaid q =
+        let p : op ≡ 21 = op-of t n 21 q in
+        let u1 = one-read 1 (λ y. absurd (omega (arith, y))) (rw p refl) in
+        let u2 = one-read 2 (λ y. absurd (omega (arith, y))) (rw p refl) in
+        let spread = fill-spreads (nodeAt t n) _ _ (third (nodeAt t n) (take n ds) .extents) (source-extents t ds v n h 1 (nodeAt t n .source1) .positive) (source-extents t ds v n h 2 (nodeAt t n .source2) .positive) (shapes-agree t n (take n ds) _ (rules t ds v n h)) p in
+        let cell = two-cells u1 u2 spread fillCell (rw p refl) in
+        record {
+          first = broadcastSource (getD ds (nodeAt t n .source1 .0) noSource .extents) r e;
+          second = broadcastSource (getD ds (nodeAt t n .source2 .0) noSource .extents) r e;
+          under-first = first-under u1 u2 spread;
+          under-second = second-under u1 u2 spread;
+          if-known = λ u k. cell ∙ rw k refl;
+          if-gap = λ k. cell ∙ rw k refl;
+          only-gap = λ g. fill-gap _ _ (sym cell ∙ g);
+        }
+
+    -- KNOWN
+    is-told : word t n 0 ≡ pos 22 → Tells t ds x n e
+    unfolding evalCell among operandsOf uses
+    is-told q =
+        let p = op-of t n 22 q in
+        let u = one-read 1 (λ y. absurd (omega (arith, y))) (rw p refl) in
+        let s = source1-before t n (take n ds) _ (rules t ds v n h) u in
+        let row : evalCell (nodeAt t n) r operands e ≡ knownCell (cellAt (operands .a) e) = rw p refl in
+        let cell : resultAt t ds x n e ≡ knownCell (sourceCell t ds x n e 1 e) = here-is ∙ row ∙ ap (λ (f : Field). knownCell (cellAt f e)) (the-field 1 (nodeAt t n .source1) u s) ∙ rw (first-node t n) refl in
+        record { if-known = λ z k. cell ∙ rw k refl; if-gap = λ k. cell ∙ rw k refl }
+
+    -- ---- STACK
+
+    module _ (q : word t n 0 ≡ pos 23) where
+      abbrev E : List ℕ
+      E = getD ds (nodeAt t n .source1 .0) noSource .extents
+
+      is-stack : nodeAt t n .op ≡ 23
+      is-stack = op-of t n 23 q
+
+      both-read : (reads (nodeAt t n) 1 ≡ true) × (reads (nodeAt t n) 2 ≡ true)
+      unfolding uses among
+      both-read = (one-read 1 (λ y. absurd (omega (arith, y))) (rw is-stack refl), one-read 2 (λ y. absurd (omega (arith, y))) (rw is-stack refl))
+
+      first-before : nodeAt t n .source1 .0 < n
+      first-before = source1-before t n (take n ds) _ (rules t ds v n h) (both-read .0)
+
+      second-before : nodeAt t n .source2 .0 < n
+      second-before = source2-before t n (take n ds) _ (rules t ds v n h) (both-read .1)
+
+      first-extents : first (nodeAt t n) (take n ds) .extents ≡ getD ds (nodeAt t n .source1 .0) noSource .extents
+      first-extents = ap (λ (d : Derived). d .extents) (source-record 1 (nodeAt t n .source1) (both-read .0) first-before)
+
+      agree : shapesAgree (nodeAt t n) (first (nodeAt t n) (take n ds) .extents) (second (nodeAt t n) (take n ds) .extents) (third (nodeAt t n) (take n ds) .extents) ≡ true
+      agree = shapes-agree t n (take n ds) _ (rules t ds v n h)
+
+      -- its shape, and how many sources it has
+      stack-shape : getD ds n noSource .extents ≡ sizeOf (nodeAt t n .number) ∷ getD ds (nodeAt t n .source1 .0) noSource .extents
+      stack-shape = extents-derived t n (take n ds) (getD ds n noSource) (rules t ds v n h) ∙ stack-extents (nodeAt t n) _ _ _ is-stack ∙ ap (λ (s : List ℕ). sizeOf (nodeAt t n .number) ∷ s) first-extents
+
+      sources : (2 ≤ sizeOf (nodeAt t n .number)) × (sizeOf (nodeAt t n .number) ≤ 3)
+      sources = stack-rule (nodeAt t n) _ _ (rows-right t n (take n ds) (getD ds n noSource) (rules t ds v n h)) is-stack
+
+      below-all : e .0 < sizeOf (nodeAt t n .number) * count (getD ds (nodeAt t n .source1 .0) noSource .extents)
+      unfolding count
+      below-all = rw stack-shape at l
+
+      as-many : count (operandsOf t ds (inputCells (x .values) (x .flags)) n (fieldsTo t ds (inputCells (x .values) (x .flags)) n) .a .extents) ≡ count (getD ds (nodeAt t n .source1 .0) noSource .extents)
+      unfolding operandsOf
+      as-many = ap (λ (f : Field). count (f .extents)) (the-field 1 (nodeAt t n .source1) (both-read .0) first-before) ∙ ap count (the-extents 1 (nodeAt t n .source1) (both-read .0) first-before)
+
+      -- element c of the source whose turn it is, which word 1 + turn names
+      in-turn : (turn c : ℕ) → e .0 ≡ turn * count (getD ds (nodeAt t n .source1 .0) noSource .extents) + c → c < count (getD ds (nodeAt t n .source1 .0) noSource .extents) → turn < sizeOf (nodeAt t n .number)
+          → getD ds (asCount (word t n (1 + turn))) noSource .extents ≡ getD ds (nodeAt t n .source1 .0) noSource .extents
+          → resultAt t ds x n e ≡ resultAt t ds x (asCount (word t n (1 + turn))) (element c) → Stacked t ds x n e
+      unfolding sizeOf
+      in-turn turn c is small has same cell =
+          let quotient : e .0 / count E ≡ turn = rw is (digits-div turn small) in
+          let rest : e .0 % count E ≡ c = rw is (digits-mod turn small) in
+          record {
+            turn = turn;
+            of = element c;
+            has-turn = rw (size-is (word t n 5) (sizeOf (nodeAt t n .number)) (ap sizeOf (sym (number-word t n))) (omega (arith, sources .1))) (size-below (pos turn) (sizeOf (nodeAt t n .number)) (omega (arith, sources .1)) has .1);
+            inside = rw same small;
+            aligned = rw (same, stack-shape) (rw (quotient, rest) at (stacked-from (sizeOf (nodeAt t n .number)) E (e .0)));
+            same = cell;
+          }
+
+      -- the cell of a source, where its turn is
+      of-source : (k c : ℕ) (s : NodeNumber) → reads (nodeAt t n) k ≡ true → s .0 < n → s .0 ≡ asCount (word t n k)
+          → evalCell (nodeAt t n) (getD ds n noSource .extents) (operandsOf t ds (inputCells (x .values) (x .flags)) n (fieldsTo t ds (inputCells (x .values) (x .flags)) n)) e ≡ getD (fieldOf (fieldsTo t ds (inputCells (x .values) (x .flags)) n) (nodeAt t n) k s .cells) c gap
+          → resultAt t ds x n e ≡ resultAt t ds x (asCount (word t n k)) (element c)
+      of-source k c s u before w row = here-is ∙ row ∙ ap (λ (f : Field). getD (f .cells) c gap) (the-field k s u before) ∙ rw w refl
+
+      same-extents : (k : ℕ) (s : NodeNumber) → reads (nodeAt t n) k ≡ true → s .0 < n → s .0 ≡ asCount (word t n k) → sourceOf (take n ds) (nodeAt t n) k s .extents ≡ first (nodeAt t n) (take n ds) .extents
+          → getD ds (asCount (word t n k)) noSource .extents ≡ getD ds (nodeAt t n .source1 .0) noSource .extents
+      same-extents k s u before w e = rw (← w) (ap (λ (d : Derived). d .extents) (sym (source-record k s u before)) ∙ e ∙ first-extents)
+
+      is-stacked : Stacked t ds x n e
+      unfolding operandsOf
+      is-stacked =
+          bool-cases (ltb (e .0) (count E))
+          (λ b.
+          let small : e .0 < count E = ltb-true (e .0) (count E) b in
+          in-turn 0 (e .0) (omega arith) small (omega (arith, sources .0)) (rw (← first-node t n) refl)
+          (of-source 1 (e .0) (nodeAt t n .source1) (both-read .0) first-before (first-node t n) (first-cell (nodeAt t n) r operands is-stack as-many (e .0) small)))
+          (λ b.
+          let past : count E ≤ e .0 = ltb-false (e .0) (count E) b in
+          bool-cases (ltb (e .0) (count E + count E))
+          (λ d.
+          let c = e .0 - count E in
+          let small : c < count E = omega (arith, ltb-true (e .0) (count E + count E) d) in
+          let at : count E + c ≡ e .0 = omega arith in
+          in-turn 1 c (omega arith) small (omega (arith, sources .0)) (same-extents 2 (nodeAt t n .source2) (both-read .1) second-before (second-node t n) (stack-second (nodeAt t n) _ _ _ is-stack agree))
+          (of-source 2 c (nodeAt t n .source2) (both-read .1) second-before (second-node t n) (rw at at (second-cell (nodeAt t n) r operands is-stack as-many c small))))
+          (λ d.
+          let over : count E + count E ≤ e .0 = ltb-false (e .0) (count E + count E) d in
+          let c = e .0 - count E - count E in
+          let three : sizeOf (nodeAt t n .number) ≡ 3 = of-three over in
+          let u3 : reads (nodeAt t n) 3 ≡ true = stack-reads (nodeAt t n) is-stack ∙ eq-eqb _ 3 three in
+          let s3 = source3-before t n (take n ds) _ (rules t ds v n h) u3 in
+          let small : c < count E = omega (arith, rw three at below-all) in
+          let at : count E + count E + c ≡ e .0 = omega arith in
+          in-turn 2 c (omega arith) small (omega (arith, three)) (same-extents 3 (nodeAt t n .source3) u3 s3 (third-node t n) (stack-third (nodeAt t n) _ _ _ is-stack agree u3))
+          (of-source 3 c (nodeAt t n .source3) u3 s3 (third-node t n) (rw at at (third-cell (nodeAt t n) r operands is-stack as-many c small)))))
+        where
+          of-three : count E + count E ≤ e .0 → sizeOf (nodeAt t n .number) ≡ 3
+          of-three over =
+              bool-cases (eqb (sizeOf (nodeAt t n .number)) 3) (eqb-true _ 3)
+              (λ b.
+              let other = eqb-false (sizeOf (nodeAt t n .number)) 3 b in
+              let two : sizeOf (nodeAt t n .number) ≡ 2 = omega (arith, sources .0, sources .1, other) in
+              absurd (omega (arith, over, rw two at below-all)))
+
     is-chosen : word t n 0 ≡ pos 18 → Chosen t ds x n e
     unfolding operandsOf evalCell among uses
     is-chosen q =
         let p : op ≡ 18 = op-of t n 18 q in
-        let u1 : uses op 1 ≡ true = rw p refl in
-        let u2 : uses op 2 ≡ true = rw p refl in
-        let u3 : uses op 3 ≡ true = rw p refl in
+        let u1 = one-read 1 (λ y. absurd (omega (arith, y))) (rw p refl) in
+        let u2 = one-read 2 (λ y. absurd (omega (arith, y))) (rw p refl) in
+        let u3 : reads (nodeAt t n) 3 ≡ true = reads-plain (nodeAt t n) 3 (λ y. absurd (omega (arith, p, y))) ∙ rw p refl in
         let s1 = source1-before t n (take n ds) _ (rules t ds v n h) u1 in
         let s2 = source2-before t n (take n ds) _ (rules t ds v n h) u2 in
         let s3 = source3-before t n (take n ds) _ (rules t ds v n h) u3 in
@@ -360,11 +530,19 @@ module _ (t : List ℤ) (ds : List Derived) (x : Lent) (v : verdict t ≡ accept
 
     -- ---- REDUCE
 
+    adds : word t n 5 ≡ pos 0 → reduction (nodeAt t n .number) ≡ _+ℤ_
+    unfolding reduction sizeOf
+    adds z = rw (number-word t n, z) refl
+
+    greatest : word t n 5 ≡ pos 1 → reduction (nodeAt t n .number) ≡ maxZ
+    unfolding reduction sizeOf
+    greatest z = rw (number-word t n, z) refl
+
     is-reduced : word t n 0 ≡ pos 19 → Reduced t ds x n e
-    unfolding operandsOf evalCell resultExtents reduction among uses sizeOf
+    unfolding operandsOf evalCell resultExtents among uses
     is-reduced q =
         let p : op ≡ 19 = op-of t n 19 q in
-        let u : uses op 1 ≡ true = rw p refl in
+        let u = one-read 1 (λ y. absurd (omega (arith, y))) (rw p refl) in
         let s = source1-before t n (take n ds) _ (rules t ds v n h) u in
         let same = source-record 1 (nodeAt t n .source1) u s in
         let E = getD ds (nodeAt t n .source1 .0) noSource .extents in
@@ -382,10 +560,10 @@ module _ (t : List ℤ) (ds : List Derived) (x : Lent) (v : verdict t ≡ accept
         record {
           gathered = os;
           which = rw (shape, ← first-node t n, ← row-a t n) which;
-          sum = λ z f k. cell ∙ rw (number-word t n, z) (rw (← many) (reduce-sum cs f (omega (arith, many, which .never-empty)) (λ i g. at i (omega (arith, many)) ∙ k i (omega (arith, many)))));
+          sum = λ z f k. cell ∙ ap (λ (g : ℤ → ℤ → ℤ). reduceCells g cs) (adds z) ∙ (rw (← many) (reduce-sum cs f (omega (arith, many, which .never-empty)) (λ i g. at i (omega (arith, many)) ∙ k i (omega (arith, many)))));
           max = λ z f k.
               let w = reduce-max cs f (omega (arith, many, which .never-empty)) (λ i g. at i (omega (arith, many)) ∙ k i (omega (arith, many))) in
-              (w .0, omega (arith, many, w .1), cell ∙ rw (number-word t n, z) (w .2), λ j g. w .3 j (omega (arith, many)));
+              (w .0, omega (arith, many, w .1), cell ∙ ap (λ (g : ℤ → ℤ → ℤ). reduceCells g cs) (greatest z) ∙ w .2, λ j g. w .3 j (omega (arith, many)));
           if-gap = λ i g k. cell ∙ reduce-gap _ cs i (omega (arith, many)) (at i g ∙ k);
           only-gap = λ k. let w = gap-reduce _ cs (omega (arith, many, which .never-empty)) (sym cell ∙ k) in (w .0, omega (arith, many, w .1), sym (at (w .0) (omega (arith, many, w .1))) ∙ w .2);
         }
@@ -402,4 +580,7 @@ every-value t ds x n e v m h l =
       computed = is-computed t ds x v n h e l;
       chosen = is-chosen t ds x v n h e l;
       reduced = is-reduced t ds x v n h e l;
+      overlaid = is-overlaid t ds x v n h e l;
+      tells = is-told t ds x v n h e l;
+      stacked = is-stacked t ds x v n h e l;
     }

@@ -6,14 +6,14 @@ use mathlib.Core.List.{List, []}
 use native.Mathlib.Omega.{arith}
 use borrow.Author.Tests.{le-leb}
 use lib.IntN.{ℤ}
-use lib.Dec.{leb}
+use lib.Dec.{eqb, leb}
 use lib.ListN.{length, take, drop}
 use lib.Seq.{take-append-seam}
-use Rattle.plan.specs.Answers.{Outcome, accepted, refused, need, andThen, inTurn, written}
+use Rattle.plan.specs.Answers.{Outcome, accepted, refused, inTurn, written}
 use Rattle.plan.proofs.Outcomes.{accepted-same, need-accepted, then-accepted}
 use Rattle.codec.specs.Numbers.{Read, numberAt}
-use Rattle.codec.specs.Plans.{Unpacked, addNode, unpack, unpackAnswer, tableAfter}
-use Rattle.codec.specs.Steps.{nodesAt}
+use Rattle.codec.specs.Plans.{Unpacked, headerOf, editionAt, editionOf, addNode, unpack, unpackAnswer, tableAfter}
+use Rattle.codec.specs.Steps.{nodesAt, allNodes}
 use Rattle.codec.proofs.Bounds.{nodes-long}
 use Rattle.verifier.specs.Check.{verdict, check, Checked, unpackCheck, codeOf}
 use Rattle.guarantees.specs.Acceptance.{Accepts}
@@ -24,25 +24,25 @@ use Rattle.guarantees.proofs.Demands.{demand-3}
 use Rattle.guarantees.proofs.Packed.{told-apart}
 
 -- what was unpacked: 17 words for each node of the count
-words-long : (s : List ℕ) (count : Read) (u : Unpacked)
-    → andThen (inTurn (addNode s) (record { words = []; next = count .next }) (count .value)) (λ (u : Unpacked). need (leb (length s) (u .next)) 22 (u .next) (accepted u)) ≡ accepted u
-    → length (u .words) ≡ 17 * count .value
-unfolding nodesAt
-words-long s count u e =
-    let a = then-accepted (inTurn (addNode s) (record { words = []; next = count .next }) (count .value)) _ e in
-    let b = need-accepted (leb (length s) (a .0 .next)) 22 (a .0 .next) (accepted (a .0)) (a .2) in
-    ap (λ (u : Unpacked). length (u .words)) (sym (accepted-same (b .1))) ∙ nodes-long s (count .next) (count .value) (a .1)
+words-long : (edition : ℕ) (s : List ℕ) (count : Read) (u : Unpacked) → allNodes edition (count .value) s (count .next) ≡ accepted u → length (u .words) ≡ 17 * count .value
+unfolding allNodes nodesAt
+words-long edition s count u e =
+    let a = then-accepted (inTurn (addNode edition s) (record { words = []; next = count .next }) (count .value)) _ e in
+    let b = need-accepted (leb (length s) (a .0 .next)) 22 (a .0 .next) _ (a .2) in
+    let c = need-accepted (eqb edition (editionOf (a .0 .words))) 26 0 (accepted (a .0)) (b .1) in
+    ap (λ (u : Unpacked). length (u .words)) (sym (accepted-same (c .1))) ∙ nodes-long edition s (count .next) (count .value) (a .1)
 
 -- room that suffices does not change it
 other-room : (s : List ℕ) (room other : ℕ) (u : Unpacked) → unpack s room ≡ accepted u → length (u .words) ≤ other → unpack s other ≡ accepted u
-unfolding unpack
+unfolding unpack allNodes nodesAt
 other-room s room other u e h =
-    let a = then-accepted (numberAt s 0) _ e in
+    let edition = then-accepted (editionAt s) _ e in
+    let a = then-accepted (numberAt s (length (headerOf (edition .0)))) _ (edition .2) in
     let c = a .0 .value in
     let b = need-accepted (leb 1 c && leb c 256) 23 0 _ (a .2) in
     let d = need-accepted (leb (17 * c) room) 14 0 _ (b .1) in
-    let z : 17 * c ≤ other = omega (arith, h, words-long s (a .0) u (d .1)) in
-    rw (a .1, b .0, le-leb (17 * c) other z) (d .1)
+    let z : 17 * c ≤ other = omega (arith, h, words-long (edition .0) s (a .0) u (d .1)) in
+    rw (edition .1, a .1, b .0, le-leb (17 * c) other z) (d .1)
 
 written-front : (words before t : List ℤ) (n : ℕ) → words ≡ t → n ≡ length t → take n (written words before) ≡ t
 unfolding written

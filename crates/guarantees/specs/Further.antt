@@ -3,9 +3,9 @@ use Prim.Native.Nat.{ℕ}
 use mathlib.Core.Path.{_≡_}
 use mathlib.Core.List.{List, [], _∷_, _++_, map}
 use lib.IntN.{ℤ, pos, negsuc}
-use Rattle.plan.specs.Operations.{PERMUTE, FLIP, RESHAPE, EXPAND, PAD, SHRINK, ADD, MUL, IDIV, MOD, CMPLT, CMPNE, AND, OR}
+use Rattle.plan.specs.Operations.{PERMUTE, FLIP, RESHAPE, EXPAND, PAD, SHRINK, ADD, MUL, IDIV, MOD, CMPLT, CMPNE, AND, OR, FILL, KNOWN}
 use Rattle.cells.specs.Cells.{known, gap}
-use Rattle.guarantees.specs.Questions.{i16, i32, zeros, paramOn, param, constant, movement, binary, choice, reduce, cast, load, boundsOf, roomOf, cellsOf, cellsIn, originOf, tableOf, numberOf, textOf, bounds, cells, origin, noOrigin, table, number, text, fits, refusal, reply, Example, _says_}
+use Rattle.guarantees.specs.Questions.{i16, i32, zeros, paramOn, param, constant, movement, binary, choice, reduce, cast, load, stack, boundsOf, roomOf, cellsOf, cellsIn, originOf, tableOf, numberOf, textOf, bounds, cells, origin, noOrigin, table, number, text, fits, refusal, reply, Example, _says_}
 
 abbrev pub further : List Example
 further =
@@ -71,8 +71,8 @@ further =
     -- 1: no nodes, a length that is no multiple of 17
     ∷ boundsOf [] says refusal 1 0
     ∷ boundsOf (zeros 16) says refusal 1 0
-    -- 2: operation 21; 3: an unused word; 4: a source that is not earlier; 5: type 4
-    ∷ boundsOf (constant i16 (pos 1) ++ binary 21 0 0) says refusal 2 1
+    -- 2: operation 24; 3: an unused word; 4: a source that is not earlier; 5: type 4
+    ∷ boundsOf (constant i16 (pos 1) ++ binary 24 0 0) says refusal 2 1
     ∷ boundsOf (constant 0 (pos 1) ++ pos 9 ∷ pos 0 ∷ pos 0 ∷ pos 1 ∷ zeros 13) says refusal 3 1
     ∷ boundsOf (constant i16 (pos 1) ++ binary ADD 0 1) says refusal 4 1
     ∷ boundsOf (constant 4 (pos 1)) says refusal 5 0
@@ -91,6 +91,11 @@ further =
     ∷ cellsOf (param 0 i16 (negsuc 32766) (pos 32767) (2 ∷ [])) (pos 1 ∷ negsuc 32767 ∷ []) (1 ∷ 1 ∷ []) says refusal 16 1
     ∷ cellsOf (param 0 i16 (negsuc 32766) (pos 32767) (2 ∷ [])) (pos 1 ∷ negsuc 32767 ∷ []) (1 ∷ 0 ∷ []) says cells (known (pos 1) ∷ gap ∷ [])
     ∷ cellsOf (param 0 i32 (negsuc 32767) (pos 32767) (2 ∷ [])) (pos 1 ∷ negsuc 32767 ∷ []) (1 ∷ 1 ∷ []) says cells (known (pos 1) ∷ known (negsuc 32767) ∷ [])
+    -- FILL of 2x2 with a gap, by a row with a gap; KNOWN of it; STACK of three, of two
+    ∷ cellsOf (param 0 i16 (negsuc 8) (pos 9) (2 ∷ 2 ∷ []) ++ param 1 i16 (negsuc 8) (pos 9) (2 ∷ []) ++ binary FILL 0 1) (pos 0 ∷ pos 2 ∷ pos 3 ∷ pos 4 ∷ pos 5 ∷ pos 6 ∷ []) (1 ∷ 0 ∷ 0 ∷ 0 ∷ 0 ∷ 1 ∷ []) says cells (known (pos 0) ∷ known (pos 6) ∷ gap ∷ known (pos 6) ∷ [])
+    ∷ cellsOf (param 0 i16 (negsuc 8) (pos 9) (3 ∷ []) ++ pos KNOWN ∷ zeros 16) (pos 0 ∷ pos 2 ∷ negsuc 2 ∷ []) (1 ∷ 0 ∷ 1 ∷ []) says cells (known (pos 1) ∷ known (pos 0) ∷ known (pos 1) ∷ [])
+    ∷ cellsOf (param 0 i16 (negsuc 8) (pos 9) (2 ∷ []) ++ param 1 i16 (negsuc 8) (pos 9) (2 ∷ []) ++ stack 1 0 1 3) (pos 1 ∷ pos 2 ∷ pos 3 ∷ pos 4 ∷ []) (1 ∷ 0 ∷ 1 ∷ 1 ∷ []) says cells (known (pos 3) ∷ known (pos 4) ∷ known (pos 1) ∷ gap ∷ known (pos 3) ∷ known (pos 4) ∷ [])
+    ∷ cellsOf (param 0 i16 (negsuc 8) (pos 9) (2 ∷ []) ++ param 1 i16 (negsuc 8) (pos 9) (2 ∷ []) ++ stack 1 0 0 2) (pos 1 ∷ pos 2 ∷ pos 3 ∷ pos 4 ∷ []) (1 ∷ 0 ∷ 1 ∷ 1 ∷ []) says cells (known (pos 3) ∷ known (pos 4) ∷ known (pos 1) ∷ gap ∷ [])
     -- 13: either length; 14: either buffer; 15 before 16 at one position, the first bad position first
     ∷ cellsOf (param 0 i16 (negsuc 8) (pos 9) (2 ∷ [])) (pos 1 ∷ []) (1 ∷ 1 ∷ []) says refusal 13 0
     ∷ cellsOf (param 0 i16 (negsuc 8) (pos 9) (2 ∷ [])) (pos 1 ∷ pos 1 ∷ []) (1 ∷ []) says refusal 13 0

@@ -11,11 +11,11 @@ use Rattle.plan.specs.Answers.{Refusal, accepted, refused}
 use Rattle.codec.specs.Plans.{unpack, unpackAnswer, tableAfter}
 use Rattle.packing.specs.Bytes.{bytesOf}
 use Rattle.packing.specs.Packing.{pack, packAnswer, bytesAfter}
-use Rattle.guarantees.specs.Questions.{i16, constant}
+use Rattle.guarantees.specs.Questions.{i16, constant, zeros}
 use Rattle.guarantees.specs.Demand3.{word}
 use Rattle.guarantees.specs.Acceptance.{Nodes}
 use Rattle.guarantees.specs.Rules.{Exactly, From, usesWord, Rule2, Rule3}
-use Rattle.guarantees.specs.Unpacks.{Number, Begins}
+use Rattle.guarantees.specs.Unpacks.{Number, Opens, New, Begins}
 
 -- ---- the tables that are taken
 
@@ -50,7 +50,10 @@ pub record File (t : List ℤ) (b : List ℕ) : Type 0 where
   pub count : ℕ
   pub nodes : Nodes t count
   pub are-bytes : AreBytes b
-  pub all : Begins b (length t) count t count (length b)
+  pub edition : ℕ
+  pub all : Begins b edition (length t) count t count (length b)
+  -- 02 §3: a second edition file "must hold at least one new operation"
+  pub some-new : edition ≡ 2 → (n : ℕ) × (n < count) × New t n
 
 -- ---- "Refusals: 1; nodes in turn, 2, 3, then 25 for a word outside that range (place: node); then 14 for room."
 
@@ -64,12 +67,18 @@ module _ (t : List ℤ) (room : ℕ) where
 
 pub record PacksExactly : Type 0 where
   pub takes : (t : List ℤ) → Exactly (Takes t) ((b : List ℕ) × File t b)
+  -- 02 §3: "so each plan still has one file", of either edition
   pub one-file : (t : List ℤ) (b c : List ℕ) → File t b → File t c → b ≡ c
   -- every outcome has its condition, so no other function than packing meets these two
   pub accepted-when : (t : List ℤ) (room : ℕ) (b : List ℕ) → Exactly (pack t room ≡ accepted b) (File t b × (length b ≤ room))
   pub refused-when : (t : List ℤ) (room : ℕ) (r : Refusal) → Exactly (pack t room ≡ refused r) (PackRefuses t room r)
   -- there are files: "01 00 04 0A" is that of a CONST of i16 5
   pub example : File (constant i16 (pos 5)) (1 ∷ 0 ∷ 4 ∷ 10 ∷ [])
+  -- and 00 02 02 00 04 0A 16 00 that of the same with KNOWN after it
+  pub second-example : File (constant i16 (pos 5) ++ pos 22 ∷ zeros 16) (0 ∷ 2 ∷ 2 ∷ 0 ∷ 4 ∷ 10 ∷ 22 ∷ 0 ∷ [])
+  -- 02 §3: "The writer picks the edition.": the second for a table with a new operation, the first for any other
+  pub picks-second : (t : List ℤ) (b : List ℕ) (m n : ℕ) → File t b → Nodes t m → n < m → New t n → Opens b 2 2
+  pub picks-first : (t : List ℤ) (b : List ℕ) (m : ℕ) → File t b → Nodes t m → ((n : ℕ) → n < m → New t n → ⊥) → Opens b 1 0
   -- "256 nodes take at most 11778": with so much room every table that is taken is written
   pub short : (t : List ℤ) (b : List ℕ) → File t b → length b ≤ 11778
 

@@ -4,7 +4,7 @@ use mathlib.Core.List.{List, [], _∷_, _++_, map}
 use lib.IntN.{ℤ, pos, negsuc}
 use lib.ListN.{length, replicate}
 use Rattle.laws.specs.Lists.{concat, lastOr}
-use Rattle.plan.specs.Operations.{CONST, PARAM, CAST, WHERE, REDUCE, LOAD}
+use Rattle.plan.specs.Operations.{CONST, PARAM, CAST, WHERE, REDUCE, LOAD, STACK}
 use Rattle.plan.specs.Words.{node, element}
 use Rattle.plan.specs.Answers.{Refusal, Outcome, accepted, refused}
 use Rattle.codec.specs.Plans.{Unpacked, unpack}
@@ -59,6 +59,10 @@ choice a b c = pos WHERE ∷ pos a ∷ pos b ∷ pos c ∷ zeros 13
 -- REDUCE of node a: number 0 sum, 1 max
 abbrev pub reduce : ℕ → ℕ → List ℕ → List ℤ
 reduce a number flags = pos REDUCE ∷ pos a ∷ zeros 3 ++ pos number ∷ zeros 3 ++ row flags ++ zeros 4
+
+-- STACK of nodes a, b and c: its number
+abbrev pub stack : ℕ → ℕ → ℕ → ℕ → List ℤ
+stack a b c number = pos STACK ∷ pos a ∷ pos b ∷ pos c ∷ pos 0 ∷ pos number ∷ zeros 11
 
 abbrev pub cast : ℕ → ℕ → List ℤ
 cast a t = pos CAST ∷ pos a ∷ zeros 2 ++ pos t ∷ zeros 12

@@ -24,15 +24,15 @@ Exactly A B = (A → B) × (B → A)
 abbrev pub From : ℤ → ℤ → ℤ → Type 0
 From low high z = (low ≤ℤ z) × (z ≤ℤ high)
 
--- "words used", for each word from 0 on: the operations that use it. Word 0 is the operation itself, and no rule asks whether it is used.
+-- "words used", for each word from 0 on: the operations that use it; 02 §3: FILL (21) has two sources, KNOWN (22) "one source", "STACK (23, words 1,2,3,5)". Word 0 is the operation itself, and no rule asks whether it is used.
 abbrev pub users : List (List ℕ)
 users =
     []
-    ∷ (2 ∷ 3 ∷ 4 ∷ 5 ∷ 6 ∷ 7 ∷ 8 ∷ 9 ∷ 10 ∷ 11 ∷ 12 ∷ 13 ∷ 14 ∷ 15 ∷ 16 ∷ 17 ∷ 18 ∷ 19 ∷ 20 ∷ [])
-    ∷ (9 ∷ 10 ∷ 11 ∷ 12 ∷ 13 ∷ 14 ∷ 15 ∷ 16 ∷ 17 ∷ 18 ∷ [])
-    ∷ (18 ∷ [])
+    ∷ (2 ∷ 3 ∷ 4 ∷ 5 ∷ 6 ∷ 7 ∷ 8 ∷ 9 ∷ 10 ∷ 11 ∷ 12 ∷ 13 ∷ 14 ∷ 15 ∷ 16 ∷ 17 ∷ 18 ∷ 19 ∷ 20 ∷ 21 ∷ 22 ∷ 23 ∷ [])
+    ∷ (9 ∷ 10 ∷ 11 ∷ 12 ∷ 13 ∷ 14 ∷ 15 ∷ 16 ∷ 17 ∷ 18 ∷ 21 ∷ 23 ∷ [])
+    ∷ (18 ∷ 23 ∷ [])
     ∷ (0 ∷ 1 ∷ 8 ∷ [])
-    ∷ (0 ∷ 1 ∷ 19 ∷ [])
+    ∷ (0 ∷ 1 ∷ 19 ∷ 23 ∷ [])
     ∷ (1 ∷ 20 ∷ [])
     ∷ (1 ∷ [])
     ∷ (1 ∷ [])
@@ -50,15 +50,19 @@ users =
 abbrev pub usesWord : ℕ → ℕ → Bool
 usesWord o k = among o (getD users k [])
 
+-- word k of 1 to 3 names a source that is read. 02 §3: "rules 4 and 6 read word 3 only with number 3", of STACK
+abbrev pub ReadsSource : List ℤ → ℕ → ℕ → ℕ → Type 0
+ReadsSource t n o k = (usesWord o k ≡ true) × (o ≡ 23 → k ≡ 3 → word t n 5 ≡ pos 3)
+
 -- the record of source k
 abbrev pub source : List ℤ → ℕ → List Derived → ℕ → Derived
 source t n earlier k = getD earlier (asCount (word t n k)) noSource
 
 -- ---- 2 to 6
 
--- "operation not 0..20"
+-- "operation not 0..20"; 02 §3: "in 01's rule 2 .. the limit is 23"
 abbrev pub Rule2 : List ℤ → ℕ → Type 0
-Rule2 t n = From (pos 0) (pos 20) (word t n 0)
+Rule2 t n = From (pos 0) (pos 23) (word t n 0)
 
 -- "unused word not zero"
 abbrev pub Rule3 : List ℤ → ℕ → ℕ → Type 0
@@ -66,14 +70,14 @@ Rule3 t n o = (k : ℕ) → 1 ≤ k → k ≤ 16 → usesWord o k ≡ false → 
 
 -- "source negative or not earlier"
 abbrev pub Rule4 : List ℤ → ℕ → ℕ → Type 0
-Rule4 t n o = (k : ℕ) → 1 ≤ k → k ≤ 3 → usesWord o k ≡ true → (pos 0 ≤ℤ word t n k) × (word t n k <ℤ pos n)
+Rule4 t n o = (k : ℕ) → 1 ≤ k → k ≤ 3 → ReadsSource t n o k → (pos 0 ≤ℤ word t n k) × (word t n k <ℤ pos n)
 
 -- "word 4 used and not 0..3"
 abbrev pub Rule5 : List ℤ → ℕ → ℕ → Type 0
 Rule5 t n o = usesWord o 4 ≡ true → From (pos 0) (pos 3) (word t n 4)
 
 -- "type rule broken (operands differ, bool misplaced, WHERE condition not bool)"; bool is 0, and the rows are those of the table of operations
-pub record Rule6 (o a b c : ℕ) : Type 0 where
+pub record Rule6 (t : List ℤ) (n o a b c : ℕ) : Type 0 where
   -- "9 ADD, 10 MUL, 11 MAX, 12 IDIV, 13 MOD: not bool; 14 CMPLT (not bool)"
   pub arithmetic : 9 ≤ o → o ≤ 14 → (a ≡ b) × (a ≡ 0 → ⊥)
   -- "15 CMPNE"
@@ -84,6 +88,11 @@ pub record Rule6 (o a b c : ℕ) : Type 0 where
   pub chooses : o ≡ 18 → (a ≡ 0) × (b ≡ c)
   -- "19 REDUCE (not bool ..)"
   pub reduces : o ≡ 19 → a ≡ 0 → ⊥
+  -- 02 §3: "FILL (21, sources T and C, same type ..)"
+  pub fills : o ≡ 21 → a ≡ b
+  -- "STACK ..: all shapes and types equal", of the two or three that are read
+  pub stacks : o ≡ 23 → a ≡ b
+  pub stacks-third : o ≡ 23 → word t n 5 ≡ pos 3 → b ≡ c
 
 -- ---- 7, "row or number wrong", "7 in full"
 
@@ -117,6 +126,8 @@ pub record Rule7 (t : List ℤ) (n o params rank : ℕ) : Type 0 where
   pub flags : (o ≡ 3) ⊎ (o ≡ 19) → RowOf (From (pos 0) (pos 1)) t n 9 rank
   -- "B holds 0..1048576 over the source's rank"
   pub offsets : (o ≡ 6) ⊎ (o ≡ 7) → RowOf (From (pos 0) (pos 1048576)) t n 13 rank
+  -- 02 §3: "STACK's number, or a word 3 not zero with number 2, is 7"
+  pub stack : o ≡ 23 → ((word t n 5 ≡ pos 2) × (word t n 3 ≡ pos 0)) ⊎ (word t n 5 ≡ pos 3)
 
 -- ---- 8, "shapes disagree, or over 1048576 elements"
 
@@ -135,7 +146,7 @@ abbrev pub Broadcasts : List ℕ → List ℕ → Type 0
 Broadcasts s t = (i : ℕ) → i < length s → i < length t → (fromLast s i ≡ fromLast t i) ⊎ ((fromLast s i ≡ 1) ⊎ (fromLast t i ≡ 1))
 
 -- a, b and c are the sources' extents, r those of row A, `offset` is row B
-pub record Rule8 (o : ℕ) (a b c r : List ℕ) (offset : ℕ → ℕ) : Type 0 where
+pub record Rule8 (t : List ℤ) (n o : ℕ) (a b c r : List ℕ) (offset : ℕ → ℕ) : Type 0 where
   -- "RESHAPE: equal element counts. EXPAND: same rank, s_k is 1 or s'_k."
   pub reshape : o ≡ 4 → count a ≡ count r
   pub expand : o ≡ 5 → (length a ≡ length r) × ((k : ℕ) → k < length a → (getD a k 1 ≡ 1) ⊎ (getD a k 1 ≡ getD r k 1))
@@ -145,13 +156,18 @@ pub record Rule8 (o : ℕ) (a b c r : List ℕ) (offset : ℕ → ℕ) : Type 0 
   -- "Binary and WHERE: right-aligned; each axis equal or 1"
   pub two : 9 ≤ o → o ≤ 17 → Broadcasts a b
   pub three : o ≡ 18 → Broadcasts a b × Broadcasts a c × Broadcasts b c
+  -- 02 §3: FILL, "broadcast"
+  pub fill : o ≡ 21 → Broadcasts a b
+  -- "STACK ..: all shapes .. equal, source rank at most 3"
+  pub stack : o ≡ 23 → (b ≡ a) × (length a ≤ 3)
+  pub stack-third : o ≡ 23 → word t n 5 ≡ pos 3 → c ≡ a
 
 -- ---- 9 to 11
 
 -- "two devices". "Device 0 is NULL."
 abbrev pub Rule9 : List ℤ → ℕ → List Derived → ℕ → Type 0
 Rule9 t n earlier o =
-    (j k : ℕ) → 1 ≤ j → j ≤ 3 → 1 ≤ k → k ≤ 3 → usesWord o j ≡ true → usesWord o k ≡ true
+    (j k : ℕ) → 1 ≤ j → j ≤ 3 → 1 ≤ k → k ≤ 3 → ReadsSource t n o j → ReadsSource t n o k
     → (source t n earlier j .device ≡ 0) ⊎ ((source t n earlier k .device ≡ 0) ⊎ (source t n earlier j .device ≡ source t n earlier k .device))
 
 -- "divisor bounds contain 0"
@@ -175,18 +191,18 @@ Rule11 dtype low high = InType dtype low × InType dtype high
 -- Rules 3 to 11 are asked where those before them hold; what of that a rule's words need stands before it.
 pub record RulesSay : Type 0 where
   pub rule-2 : (t : List ℤ) (n : ℕ) (earlier : List Derived) → Exactly (ruleHolds t n earlier 2 ≡ true) (Rule2 t n)
-  pub rule-3 : (t : List ℤ) (n : ℕ) (earlier : List Derived) (o : ℕ) → word t n 0 ≡ pos o → o ≤ 20 → Exactly (ruleHolds t n earlier 3 ≡ true) (Rule3 t n o)
-  pub rule-4 : (t : List ℤ) (n : ℕ) (earlier : List Derived) (o : ℕ) → word t n 0 ≡ pos o → o ≤ 20 → n ≤ 256 → Exactly (ruleHolds t n earlier 4 ≡ true) (Rule4 t n o)
-  pub rule-5 : (t : List ℤ) (n : ℕ) (earlier : List Derived) (o : ℕ) → word t n 0 ≡ pos o → o ≤ 20 → Exactly (ruleHolds t n earlier 5 ≡ true) (Rule5 t n o)
-  pub rule-6 : (t : List ℤ) (n : ℕ) (earlier : List Derived) (o : ℕ) → word t n 0 ≡ pos o → o ≤ 20
-      → Exactly (ruleHolds t n earlier 6 ≡ true) (Rule6 o (source t n earlier 1 .dtype) (source t n earlier 2 .dtype) (source t n earlier 3 .dtype))
-  pub rule-7 : (t : List ℤ) (n : ℕ) (earlier : List Derived) (o : ℕ) → word t n 0 ≡ pos o → o ≤ 20 → length (source t n earlier 1 .extents) ≤ 4
+  pub rule-3 : (t : List ℤ) (n : ℕ) (earlier : List Derived) (o : ℕ) → word t n 0 ≡ pos o → o ≤ 23 → Exactly (ruleHolds t n earlier 3 ≡ true) (Rule3 t n o)
+  pub rule-4 : (t : List ℤ) (n : ℕ) (earlier : List Derived) (o : ℕ) → word t n 0 ≡ pos o → o ≤ 23 → n ≤ 256 → Exactly (ruleHolds t n earlier 4 ≡ true) (Rule4 t n o)
+  pub rule-5 : (t : List ℤ) (n : ℕ) (earlier : List Derived) (o : ℕ) → word t n 0 ≡ pos o → o ≤ 23 → Exactly (ruleHolds t n earlier 5 ≡ true) (Rule5 t n o)
+  pub rule-6 : (t : List ℤ) (n : ℕ) (earlier : List Derived) (o : ℕ) → word t n 0 ≡ pos o → o ≤ 23
+      → Exactly (ruleHolds t n earlier 6 ≡ true) (Rule6 t n o (source t n earlier 1 .dtype) (source t n earlier 2 .dtype) (source t n earlier 3 .dtype))
+  pub rule-7 : (t : List ℤ) (n : ℕ) (earlier : List Derived) (o : ℕ) → word t n 0 ≡ pos o → o ≤ 23 → length (source t n earlier 1 .extents) ≤ 4
       → Exactly (ruleHolds t n earlier 7 ≡ true) (Rule7 t n o (paramsBefore t n) (length (source t n earlier 1 .extents)))
-  pub rule-8 : (t : List ℤ) (n : ℕ) (earlier : List Derived) (o : ℕ) (r : List ℕ) (offset : ℕ → ℕ) → word t n 0 ≡ pos o → o ≤ 20 → length (source t n earlier 1 .extents) ≤ 4
+  pub rule-8 : (t : List ℤ) (n : ℕ) (earlier : List Derived) (o : ℕ) (r : List ℕ) (offset : ℕ → ℕ) → word t n 0 ≡ pos o → o ≤ 23 → length (source t n earlier 1 .extents) ≤ 4
       → ((j k : ℕ) → 1 ≤ getD (source t n earlier j .extents) k 1) → (4 ≤ o → o ≤ 7 → IsRow t n 9 r) → ((o ≡ 6) ⊎ (o ≡ 7) → (k : ℕ) → k < 4 → word t n (13 + k) ≡ pos (offset k))
       → Exactly (ruleHolds t n earlier 8 ≡ true)
-      (Rule8 o (source t n earlier 1 .extents) (source t n earlier 2 .extents) (source t n earlier 3 .extents) r offset × (count (deriveNode t n earlier .extents) ≤ 1048576))
-  pub rule-9 : (t : List ℤ) (n : ℕ) (earlier : List Derived) (o : ℕ) → word t n 0 ≡ pos o → o ≤ 20 → Exactly (ruleHolds t n earlier 9 ≡ true) (Rule9 t n earlier o)
-  pub rule-10 : (t : List ℤ) (n : ℕ) (earlier : List Derived) (o : ℕ) → word t n 0 ≡ pos o → o ≤ 20 → Exactly (ruleHolds t n earlier 10 ≡ true) (Rule10 t n earlier o)
+      (Rule8 t n o (source t n earlier 1 .extents) (source t n earlier 2 .extents) (source t n earlier 3 .extents) r offset × (count (deriveNode t n earlier .extents) ≤ 1048576))
+  pub rule-9 : (t : List ℤ) (n : ℕ) (earlier : List Derived) (o : ℕ) → word t n 0 ≡ pos o → o ≤ 23 → Exactly (ruleHolds t n earlier 9 ≡ true) (Rule9 t n earlier o)
+  pub rule-10 : (t : List ℤ) (n : ℕ) (earlier : List Derived) (o : ℕ) → word t n 0 ≡ pos o → o ≤ 23 → Exactly (ruleHolds t n earlier 10 ≡ true) (Rule10 t n earlier o)
   pub rule-11 : (t : List ℤ) (n : ℕ) (earlier : List Derived) → deriveNode t n earlier .dtype ≤ 3
       → Exactly (ruleHolds t n earlier 11 ≡ true) (Rule11 (deriveNode t n earlier .dtype) (deriveNode t n earlier .bounds .low) (deriveNode t n earlier .bounds .high))

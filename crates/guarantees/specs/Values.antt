@@ -11,7 +11,7 @@ use Rattle.laws.specs.Integers.{FloorUp, FloorDown}
 use Rattle.plan.specs.declared.ElementNumber.{ElementNumber}
 use Rattle.plan.specs.Words.{element}
 use Rattle.plan.specs.Answers.{accepted}
-use Rattle.shapes.specs.Coordinates.{BroadcastFrom, Followed, ComesFrom, NewCell, Gathers}
+use Rattle.shapes.specs.Coordinates.{BroadcastFrom, StackedFrom, Followed, ComesFrom, NewCell, Gathers}
 use Rattle.rules.specs.Rules.{Derived, noSource}
 use Rattle.verifier.specs.Check.{verdict}
 use Rattle.cells.specs.Cells.{Cell, known, gap}
@@ -104,6 +104,30 @@ module _ (t : List ℤ) (ds : List Derived) (x : Lent) (n : ℕ) (e : ElementNum
     pub if-gap : (i : ℕ) → i < length gathered → sourceCell 1 (getD gathered i (element 0)) ≡ gap → here ≡ gap
     pub only-gap : here ≡ gap → (i : ℕ) × (i < length gathered) × (sourceCell 1 (getD gathered i (element 0)) ≡ gap)
 
+  -- 02 §3, FILL: "T where known, else C"; a gap only where both are
+  pub record Overlaid : Type 0 where
+    pub first : ElementNumber
+    pub second : ElementNumber
+    pub under-first : Under 1 first
+    pub under-second : Under 2 second
+    pub if-known : (u : ℤ) → sourceCell 1 first ≡ known u → here ≡ known u
+    pub if-gap : sourceCell 1 first ≡ gap → here ≡ sourceCell 2 second
+    pub only-gap : here ≡ gap → (sourceCell 1 first ≡ gap) × (sourceCell 2 second ≡ gap)
+
+  -- 02 §3, KNOWN: "1 where the source is known, else 0, never a gap"
+  pub record Tells : Type 0 where
+    pub if-known : (u : ℤ) → sourceCell 1 e ≡ known u → here ≡ known (pos 1)
+    pub if-gap : sourceCell 1 e ≡ gap → here ≡ known (pos 0)
+
+  -- 02 §3, STACK: "number 2 or 3 of sources joined on a new leading axis": its sources have turns from 0, and this is the element `of` one of them
+  pub record Stacked : Type 0 where
+    pub turn : ℕ
+    pub of : ElementNumber
+    pub has-turn : pos turn <ℤ word t n 5
+    pub inside : of .0 < elements ds (sourceNode (1 + turn))
+    pub aligned : StackedFrom (extentsAt (sourceNode (1 + turn))) (extentsAt n) turn (of .0) (e .0)
+    pub same : here ≡ sourceCell (1 + turn) of
+
   -- by operation
   pub record ElementIs : Type 0 where
     -- "CONST"
@@ -121,6 +145,10 @@ module _ (t : List ℤ) (ds : List Derived) (x : Lent) (n : ℕ) (e : ElementNum
     pub chosen : word t n 0 ≡ pos 18 → Chosen
     -- "19 REDUCE"
     pub reduced : word t n 0 ≡ pos 19 → Reduced
+    -- 02 §3: "FILL (21", "KNOWN (22", "STACK (23"
+    pub overlaid : word t n 0 ≡ pos 21 → Overlaid
+    pub tells : word t n 0 ≡ pos 22 → Tells
+    pub stacked : word t n 0 ≡ pos 23 → Stacked
 
 -- for any accepted plan and any input of the required length, at every element of every node
 abbrev pub EveryValue : Type 0

@@ -4,9 +4,9 @@ use mathlib.Core.Path.{_≡_, refl}
 use mathlib.Core.List.{List, [], _∷_, map}
 use lib.IntN.{ℤ, pos}
 use Rattle.laws.specs.Lists.{concat}
-use Rattle.plan.specs.Operations.{PERMUTE, FLIP, RESHAPE, PAD, SHRINK, ADD}
+use Rattle.plan.specs.Operations.{PERMUTE, FLIP, RESHAPE, PAD, SHRINK, ADD, FILL, KNOWN}
 use Rattle.plan.specs.Words.{node, element}
-use Rattle.verifier.proofs.Facts.{checking, constant, param, on, move, cast, load}
+use Rattle.verifier.proofs.Facts.{checking, constant, param, on, move, cast, load, stack}
 use Rattle.lookup.specs.declared.Reply.{Reply}
 use Rattle.lookup.specs.Following.{lookup, replyOf}
 
@@ -68,13 +68,17 @@ facts =
     ∷ origin chain 5 0 is place 4 1
     -- and so are CONST and ADD
     ∷ origin (constant 2 (pos 5) ∷ on ADD (0 ∷ 0 ∷ []) ∷ move RESHAPE 1 (1 ∷ []) [] ∷ []) 2 0 is place 1 0
+    -- "lookups stop at them"
+    ∷ origin (constant 2 (pos 5) ∷ on FILL (0 ∷ 0 ∷ []) ∷ move RESHAPE 1 (1 ∷ []) [] ∷ []) 2 0 is place 1 0
+    ∷ origin (constant 2 (pos 5) ∷ on KNOWN (0 ∷ []) ∷ move RESHAPE 1 (1 ∷ []) [] ∷ []) 2 0 is place 1 0
+    ∷ origin (constant 2 (pos 5) ∷ stack (0 ∷ 0 ∷ []) (pos 2) ∷ move FLIP 1 (1 ∷ []) [] ∷ []) 2 0 is place 1 1
     -- "17: lookup node or element not there; 0"
     ∷ origin turned 2 0 is refusal 17 0
     ∷ origin turned 1 6 is refusal 17 0
     ∷ origin turned 1 5 is place 0 5
     -- "A lookup gives 17 after 12."
     ∷ origin [] 0 0 is refusal 1 0
-    ∷ origin (constant 2 (pos 5) ∷ on 21 [] ∷ []) 99 0 is refusal 2 1
+    ∷ origin (constant 2 (pos 5) ∷ on 24 [] ∷ []) 99 0 is refusal 2 1
     ∷ []
 
 pub facts-hold : map asked facts ≡ map said facts

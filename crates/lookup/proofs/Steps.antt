@@ -14,7 +14,7 @@ use Rattle.plan.specs.declared.ElementNumber.{ElementNumber}
 use Rattle.plan.specs.Operations.{PERMUTE, followed}
 use Rattle.plan.specs.Words.{nodeAt, listOf}
 use Rattle.plan.specs.Answers.{accepted}
-use Rattle.plan.proofs.ByOperation.{followed-uses}
+use Rattle.plan.proofs.ByOperation.{followed-reads}
 use Rattle.shapes.specs.Rows.{isPermutation}
 use Rattle.shapes.specs.Rules.{shapesAgree, resultExtents}
 use Rattle.shapes.specs.Sources.{sourceElement, Below}
@@ -54,10 +54,10 @@ module _ (t : List ℤ) (ds : List Derived) (v : verdict t ≡ accepted ds) (n :
   rules = let plan = accepted-meets t ds v in plan .nodes .each (n .0) (rw (plan .nodes .as-many) at h)
 
   pub source-earlier : nodeAt t (n .0) .source1 .0 < n .0
-  source-earlier = source1-before t (n .0) (take (n .0) ds) (recordOf ds n) rules (followed-uses (nodeAt t (n .0) .op) f)
+  source-earlier = source1-before t (n .0) (take (n .0) ds) (recordOf ds n) rules (followed-reads (nodeAt t (n .0)) f)
 
   pub source-record : first (nodeAt t (n .0)) (take (n .0) ds) ≡ recordOf ds (nodeAt t (n .0) .source1)
-  source-record = source-is ds (n .0) (nodeAt t (n .0) .op) 1 (nodeAt t (n .0) .source1) (followed-uses (nodeAt t (n .0) .op) f) source-earlier
+  source-record = source-is ds (n .0) (nodeAt t (n .0)) 1 (nodeAt t (n .0) .source1) (followed-reads (nodeAt t (n .0)) f) source-earlier
 
   -- its shapes agree, and PERMUTE's row is one
   abbrev x : Node

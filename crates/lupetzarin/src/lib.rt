@@ -8,12 +8,12 @@ ghost use Rattle.packing.specs.Packing.{pack, packAnswer, bytesAfter};
 ghost use Rattle.runner.specs.Run.{run, runAnswer, valuesAfter, flagsAfter};
 ghost use Rattle.verifier.specs.Check.{check, checkAnswer, derivedAfter, unpackCheck, codeOf};
 
-// The version of this library, 5.0.0: 1000000 times the major number, 1000 times the minor one, and the patch. The macros of the header say the same.
+// The version of this library, 5.1.0: 1000000 times the major number, 1000 times the minor one, and the patch. The macros of the header say the same.
 #[no_mangle]
 pub extern "C" fn lup_version() -> u64
-    ensures { λ r. ⌜ r ≡ 1000000 * 5 + 1000 * 0 + 0 ⌝ }
+    ensures { λ r. ⌜ r ≡ 1000000 * 5 + 1000 * 1 + 0 ⌝ }
 {
-    5000000
+    5001000
 }
 
 // A packed plan into a table, which stays as it was where the plan is refused.

@@ -201,14 +201,14 @@ pub fn pad_values(
     }
 }
 
-// Gaps.
-fn fill_flags(flags: &mut [u8], n: usize, to: usize)
+// n cells that are all known, or all gaps.
+pub fn fill_flags(flags: &mut [u8], n: usize, to: usize, flag: u8)
     requires { ⌜ to + n ≤ length (now flags) ⌝ }
-    ensures { λ _. ⌜ now (flags .exit) ≡ store (now (flags .entry)) to n (λ (j : ℕ). 0) ⌝ }
+    ensures { λ _. ⌜ now (flags .exit) ≡ store (now (flags .entry)) to n (λ (j : ℕ). flag) ⌝ }
 {
     let mut i = 0;
     while i < n {
-        flags[to + i] = 0;
+        flags[to + i] = flag;
         i += 1;
     }
 }
@@ -219,9 +219,9 @@ fn band_flags(flags: &mut [u8], before: usize, n: usize, width: usize, p: usize,
     ensures { λ _. ⌜ now (flags .exit) ≡ store (now (flags .entry)) to width (bandCell 0 (now (flags .entry)) before n p) ⌝ }
 {
     let one = Stride { up: 1, down: 0 };
-    fill_flags(flags, before, to);
+    fill_flags(flags, before, to, 0);
     copy_flags(flags, n, p, one, to + before);
-    fill_flags(flags, width - before - n, to + before + n);
+    fill_flags(flags, width - before - n, to + before + n, 0);
 }
 
 // Row i of a source laid within gaps.
@@ -230,7 +230,7 @@ fn pad_row_flags(flags: &mut [u8], r: Row, o: Row, s: Row, base: usize, i: usize
     ensures { λ _. ⌜ now (flags .exit) ≡ store (now (flags .entry)) to (r .r3) (rowCell 0 (now (flags .entry)) r o s base i) ⌝ }
 {
     if !row_inside(r, o, s, i) {
-        fill_flags(flags, r.r3, to);
+        fill_flags(flags, r.r3, to, 0);
         return;
     }
     let p = row_start(r, o, s, base, i);

@@ -5,13 +5,14 @@ use mathlib.Core.Bool.{Bool, true, false, _&&_, _||_, not}
 use mathlib.Core.List.{List}
 use native.Mathlib.Numerals.{add-one}
 use native.Mathlib.Omega.{arith}
-use borrow.Author.Tests.{eqb-true, lt-ltb, le-ltb}
-use lib.Dec.{eqb, ltb, eqb·suc-zero}
+use borrow.Author.Tests.{eqb-true}
+use lib.Dec.{eqb, eqb·suc-zero}
 use lib.IntN.{ℤ, pos, negsuc}
 use Rattle.laws.specs.Lists.{allBelow}
 use Rattle.laws.proofs.Booleans.{bool-cases, all-below, all-below-snoc, all-below-same, off, on}
-use Rattle.plan.specs.Operations.{uses}
+use Rattle.plan.specs.Operations.{uses, isOperation, operationCount}
 use Rattle.plan.specs.Types.{holds}
+use Rattle.plan.proofs.ByOperation.{operation-small}
 use Rattle.plan.specs.Words.{sizeOf, wordAt, sizeAt, unusedZero}
 use Rattle.plan.specs.Answers.{FirstFailing}
 use Rattle.plan.proofs.Outcomes.{fails-here, holds-then}
@@ -36,12 +37,12 @@ module _ (w : List ℤ) where
   range-done k so-far l h e = let q : k ≡ 17 = omega arith in rw q at e
 
 -- where 2 and 3 hold the words that are not used can be packed
-small-in-range : (z : ℤ) → sizeOf z < 21 → holds wordRange z ≡ true
+small-in-range : (z : ℤ) → sizeOf z < operationCount → holds wordRange z ≡ true
 unfolding sizeOf packedWord
 small-in-range (pos n) h = small-word (pos n) (omega arith)
 small-in-range (negsuc n) h = absurd (omega arith)
 
-unused-in-range : (op : ℕ) (w : List ℤ) → op ≡ sizeAt w 0 → op < 21 → unusedZero op w ≡ true → (k : ℕ) → k < 17 → uses op k ≡ false → holds wordRange (wordAt w k) ≡ true
+unused-in-range : (op : ℕ) (w : List ℤ) → op ≡ sizeAt w 0 → op < operationCount → unusedZero op w ≡ true → (k : ℕ) → k < 17 → uses op k ≡ false → holds wordRange (wordAt w k) ≡ true
 unfolding unusedZero
 unused-in-range op w is h e zero l u = small-in-range (wordAt w 0) (rw is at h)
 unused-in-range op w is h e (suc k) l u =
@@ -49,7 +50,7 @@ unused-in-range op w is h e (suc k) l u =
     let is : sizeOf (wordAt w (suc k)) ≡ 0 = eqb-true (sizeOf (wordAt w (suc k))) 0 (rw (u, eqb·suc-zero) at z) in
     small-in-range (wordAt w (suc k)) (omega (arith, is))
 
-all-used : (op : ℕ) (w : List ℤ) → op ≡ sizeAt w 0 → op < 21 → unusedZero op w ≡ true → allInRange w ≡ usedInRange op w
+all-used : (op : ℕ) (w : List ℤ) → op ≡ sizeAt w 0 → op < operationCount → unusedZero op w ≡ true → allInRange w ≡ usedInRange op w
 unfolding usedInRange
 all-used op w is h e = all-below-same 17 _ _ (λ k l. bool-cases (uses op k) (λ u. rw u refl) (λ u. rw (u, unused-in-range op w is h e k l u) refl))
 
@@ -59,25 +60,26 @@ module _ (w : List ℤ) {op : ℕ} (is : op ≡ sizeAt w 0) where
   only : {r : ℕ} → 0 < r → FirstFailing (packRules w) r → Breaks w r
   only h f = record { meets = λ e. absurd (omega arith); breaks = λ n. f }
 
-  pub breaks-2 : 21 ≤ op → Breaks w 2
-  breaks-2 h = only (omega arith) (fails-here _ (le-ltb (sizeAt w 0) 21 (rw is at h)))
+  module _ (r2 : Bool) (e2 : r2 ≡ isOperation op) where
+    is-2 : r2 ≡ isOperation (sizeAt w 0)
+    is-2 = e2 ∙ rw is refl
 
-  module _ (k : op < 21) (r3 : Bool) (e3 : r3 ≡ unusedZero op w) where
-    known : ltb (sizeAt w 0) 21 ≡ true
-    known = lt-ltb (sizeAt w 0) 21 (rw is at k)
+    pub breaks-2 : not r2 ≡ true → Breaks w 2
+    breaks-2 f = only (omega arith) (fails-here _ (off r2 is-2 f))
 
-    is-3 : r3 ≡ unusedZero (sizeAt w 0) w
-    is-3 = e3 ∙ rw is refl
+    module _ (n2 : not r2 ≡ false) (r3 : Bool) (e3 : r3 ≡ unusedZero op w) where
+      is-3 : r3 ≡ unusedZero (sizeAt w 0) w
+      is-3 = e3 ∙ rw is refl
 
-    pub breaks-3 : not r3 ≡ true → Breaks w 3
-    breaks-3 f = only (omega arith) (holds-then _ known (fails-here _ (off r3 is-3 f)))
+      pub breaks-3 : not r3 ≡ true → Breaks w 3
+      breaks-3 f = only (omega arith) (holds-then _ (on r2 is-2 n2) (fails-here _ (off r3 is-3 f)))
 
-    module _ (n3 : not r3 ≡ false) (r25 : Bool) (e25 : r25 ≡ allInRange w) where
-      is-25 : r25 ≡ usedInRange (sizeAt w 0) w
-      is-25 = e25 ∙ all-used op w is k (on r3 e3 n3) ∙ rw is refl
+      module _ (n3 : not r3 ≡ false) (r25 : Bool) (e25 : r25 ≡ allInRange w) where
+        is-25 : r25 ≡ usedInRange (sizeAt w 0) w
+        is-25 = e25 ∙ all-used op w is (operation-small op (on r2 e2 n2)) (on r3 e3 n3) ∙ rw is refl
 
-      pub breaks-25 : not r25 ≡ true → Breaks w 25
-      breaks-25 f = only (omega arith) (holds-then _ known (holds-then _ (on r3 is-3 n3) (fails-here _ (off r25 is-25 f))))
+        pub breaks-25 : not r25 ≡ true → Breaks w 25
+        breaks-25 f = only (omega arith) (holds-then _ (on r2 is-2 n2) (holds-then _ (on r3 is-3 n3) (fails-here _ (off r25 is-25 f))))
 
-      pub breaks-none : not r25 ≡ false → Breaks w 0
-      breaks-none n25 = record { meets = λ z. (known, (on r3 is-3 n3, (on r25 is-25 n25, tt))); breaks = λ n. absurd (n refl) }
+        pub breaks-none : not r25 ≡ false → Breaks w 0
+        breaks-none n25 = record { meets = λ z. (on r2 is-2 n2, (on r3 is-3 n3, (on r25 is-25 n25, tt))); breaks = λ n. absurd (n refl) }

@@ -5,7 +5,7 @@ use mathlib.Core.Bool.{cond}
 use mathlib.Core.List.{List, [], _∷_, _++_}
 use native.Mathlib.Omega.{arith}
 use borrow.Author.Tests.{ltb-true, ltb-false}
-use lib.Dec.{ltb, leb}
+use lib.Dec.{eqb, ltb, leb}
 use lib.IntN.{ℤ}
 use lib.ListN.{length}
 use Rattle.laws.proofs.Booleans.{bool-cases}
@@ -13,8 +13,9 @@ use Rattle.plan.specs.Operations.{uses}
 use Rattle.plan.specs.Words.{wordAt, sizeAt, wordsOf, nodeCount, lengthRight}
 use Rattle.plan.specs.Answers.{accepted, inTurn}
 use Rattle.plan.proofs.Outcomes.{accepted-same, need-accepted, then-accepted, turn-last, order-accepted}
+use Rattle.codec.specs.Plans.{headerOf, editionOf}
 use Rattle.packing.specs.Bytes.{groupsOf, bytesOf, packedWord}
-use Rattle.packing.specs.Packing.{wordsTo, nodeBytes, packRules, packNode, pack}
+use Rattle.packing.specs.Packing.{wordsTo, nodeBytes, packRules, openingBytes, packNode, pack}
 use Rattle.packing.proofs.NumbersBack.{AreBytes, one-group, next-group}
 
 none-bytes : AreBytes []
@@ -56,10 +57,16 @@ turns-bytes t start (suc n) h e =
     let is = accepted-same (order-accepted (packRules w) n (accepted (last .0 ++ nodeBytes w)) (last .2) .1) in
     subst AreBytes is (append-bytes (last .0) (nodeBytes w) (turns-bytes t start n h (last .1)) (node-bytes w))
 
+header-bytes : (edition : ℕ) → AreBytes (headerOf edition)
+header-bytes edition = bool-cases (eqb edition 2) (λ e. rw e second) (λ e. rw e none-bytes)
+  where
+    second : AreBytes (0 ∷ 2 ∷ [])
+    second = one-byte 0 (2 ∷ []) (omega arith) (one-byte 2 [] (omega arith) none-bytes)
+
 pub pack-bytes : (t : List ℤ) (room : ℕ) (b : List ℕ) → pack t room ≡ accepted b → AreBytes b
 unfolding pack bytesOf
 pack-bytes t room b e =
     let outer = need-accepted (lengthRight t) 1 0 _ e in
-    let inner = then-accepted (inTurn (packNode t) (bytesOf (nodeCount t)) (nodeCount t)) _ (outer .1) in
+    let inner = then-accepted (inTurn (packNode t) (openingBytes t) (nodeCount t)) _ (outer .1) in
     let q = need-accepted (leb (length (inner .0)) room) 14 0 _ (inner .2) in
-    subst AreBytes (accepted-same (q .1)) (turns-bytes t (bytesOf (nodeCount t)) (nodeCount t) (groups-bytes 5 (nodeCount t)) (inner .1))
+    subst AreBytes (accepted-same (q .1)) (turns-bytes t (openingBytes t) (nodeCount t) (append-bytes (headerOf (editionOf t)) (bytesOf (nodeCount t)) (header-bytes (editionOf t)) (groups-bytes 5 (nodeCount t))) (inner .1))

@@ -62,11 +62,16 @@ facts =
     ∷ packed (pack [] 99) is packed (refuse 1 0)
     ∷ packed (pack (zeros 18) 99) is packed (refuse 1 0)
     -- "nodes in turn, 2, 3, then 25 ..; (place: node)"
-    ∷ packed (pack (constant (pos 5) ++ pos 21 ∷ zeros 16) 99) is packed (refuse 2 1)
+    ∷ packed (pack (constant (pos 5) ++ pos 24 ∷ zeros 16) 99) is packed (refuse 2 1)
     ∷ packed (pack (negsuc 0 ∷ zeros 16) 99) is packed (refuse 2 0)
     ∷ packed (pack (spoilt (pos 17179869184)) 99) is packed (refuse 3 0)
-    ∷ packed (pack (constant (pos 17179869184) ++ pos 21 ∷ zeros 16) 99) is packed (refuse 25 0)
-    -- "then 14 for room"
+    ∷ packed (pack (constant (pos 17179869184) ++ pos 24 ∷ zeros 16) 99) is packed (refuse 25 0)
+    -- "A second edition file starts with bytes 00 02, then count and nodes as before"; "The writer picks the edition.": FILL, KNOWN and STACK of two, each of node 0
+    ∷ packed (pack (constant (pos 5) ++ pos 21 ∷ zeros 16) 9) is packed (accepted (0 ∷ 2 ∷ 2 ∷ 0 ∷ 4 ∷ 10 ∷ 21 ∷ 0 ∷ 0 ∷ []))
+    ∷ packed (pack (constant (pos 5) ++ pos 22 ∷ zeros 16) 8) is packed (accepted (0 ∷ 2 ∷ 2 ∷ 0 ∷ 4 ∷ 10 ∷ 22 ∷ 0 ∷ []))
+    ∷ packed (pack (constant (pos 5) ++ pos 23 ∷ zeros 4 ++ pos 2 ∷ zeros 11) 11) is packed (accepted (0 ∷ 2 ∷ 2 ∷ 0 ∷ 4 ∷ 10 ∷ 23 ∷ 0 ∷ 0 ∷ 0 ∷ 4 ∷ []))
+    -- "then 14 for room": of a second edition file with its first two bytes
+    ∷ packed (pack (constant (pos 5) ++ pos 22 ∷ zeros 16) 7) is packed (refuse 14 0)
     ∷ packed (pack (constant (pos 5)) 3) is packed (refuse 14 0)
     ∷ packed (pack (constant (pos 17179869184)) 0) is packed (refuse 25 0)
     -- it takes what the check refuses: a CONST of 40000 is no i16
@@ -79,5 +84,5 @@ facts =
     ∷ []
 
 pub facts-hold : map asked facts ≡ map said facts
-unfolding Rattle.laws.specs.Lists.among Rattle.laws.specs.Lists.allBelow Rattle.plan.specs.Answers.inTurn Rattle.plan.specs.Answers.written Rattle.plan.specs.Operations.uses Rattle.plan.specs.Types.holds Rattle.plan.specs.Words.sizeOf Rattle.plan.specs.Words.wordsOf Rattle.plan.specs.Words.nodeCount Rattle.plan.specs.Words.lengthRight Rattle.plan.specs.Words.unusedZero Rattle.packing.specs.Bytes.groupsOf Rattle.packing.specs.Bytes.bytesOf Rattle.packing.specs.Bytes.packedWord Rattle.packing.specs.Packing.usedInRange Rattle.packing.specs.Packing.wordsTo Rattle.packing.specs.Packing.nodeBytes Rattle.packing.specs.Packing.packNode Rattle.packing.specs.Packing.pack
+unfolding Rattle.laws.specs.Lists.among Rattle.laws.specs.Lists.allBelow Rattle.plan.specs.Answers.inTurn Rattle.plan.specs.Answers.written Rattle.plan.specs.Operations.uses Rattle.plan.specs.Operations.isNew Rattle.plan.specs.Operations.isOperation Rattle.plan.specs.Types.holds Rattle.plan.specs.Words.sizeOf Rattle.plan.specs.Words.wordsOf Rattle.plan.specs.Words.nodeCount Rattle.plan.specs.Words.lengthRight Rattle.plan.specs.Words.unusedZero Rattle.codec.specs.Plans.noneNew Rattle.codec.specs.Plans.editionOf Rattle.packing.specs.Bytes.groupsOf Rattle.packing.specs.Bytes.bytesOf Rattle.packing.specs.Bytes.packedWord Rattle.packing.specs.Packing.usedInRange Rattle.packing.specs.Packing.wordsTo Rattle.packing.specs.Packing.nodeBytes Rattle.packing.specs.Packing.packNode Rattle.packing.specs.Packing.pack
 facts-hold = refl

@@ -13,8 +13,7 @@ use lib.ListN.{length}
 use Rattle.plan.specs.Words.{wordsOf, nodeCount, lengthRight}
 use Rattle.plan.specs.Answers.{accepted, refuse, inTurn, AllHold}
 use Rattle.plan.proofs.Outcomes.{accepted-same, need-accepted, then-accepted, turn-last, turn-more, order-accepted, order-holds}
-use Rattle.packing.specs.Bytes.{bytesOf}
-use Rattle.packing.specs.Packing.{packRules, nodeBytes, packNode, pack}
+use Rattle.packing.specs.Packing.{packRules, nodeBytes, openingBytes, packNode, pack}
 
 -- rules 1, 2, 3 and 25
 pub record Packable (t : List ℤ) : Type 0 where
@@ -48,12 +47,12 @@ takes-only : (t : List ℤ) (room : ℕ) (b : List ℕ) → pack t room ≡ acce
 unfolding pack
 takes-only t room b e =
     let outer = need-accepted (lengthRight t) 1 0 _ e in
-    let inner = then-accepted (inTurn (packNode t) (bytesOf (nodeCount t)) (nodeCount t)) _ (outer .1) in
+    let inner = then-accepted (inTurn (packNode t) (openingBytes t) (nodeCount t)) _ (outer .1) in
     let q = need-accepted (leb (length (inner .0)) room) 14 0 _ (inner .2) in
     let is : inner .0 ≡ b = accepted-same (q .1) in
-    (record { length-right = outer .0; nodes = turns-hold t (bytesOf (nodeCount t)) (nodeCount t) (inner .1) }, rw (← is) (leb-true (length (inner .0)) room (q .0)))
+    (record { length-right = outer .0; nodes = turns-hold t (openingBytes t) (nodeCount t) (inner .1) }, rw (← is) (leb-true (length (inner .0)) room (q .0)))
 
-pub with-room : (t : List ℤ) (b : List ℕ) → lengthRight t ≡ true → inTurn (packNode t) (bytesOf (nodeCount t)) (nodeCount t) ≡ accepted b → (room : ℕ) → length b ≤ room
+pub with-room : (t : List ℤ) (b : List ℕ) → lengthRight t ≡ true → inTurn (packNode t) (openingBytes t) (nodeCount t) ≡ accepted b → (room : ℕ) → length b ≤ room
     → pack t room ≡ accepted b
 unfolding pack
 with-room t b l e room h = rw (l, e, le-leb (length b) room h) refl
@@ -61,7 +60,7 @@ with-room t b l e room h = rw (l, e, le-leb (length b) room h) refl
 takes-all : (t : List ℤ) → Packable t → (b : List ℕ) × ((room : ℕ) → length b ≤ room → pack t room ≡ accepted b) × ((room : ℕ) → room < length b → pack t room ≡ refuse 14 0)
 unfolding pack
 takes-all t p =
-    let turns = turns-taken t (bytesOf (nodeCount t)) (nodeCount t) (p .nodes) in (
+    let turns = turns-taken t (openingBytes t) (nodeCount t) (p .nodes) in (
       turns .0,
       with-room t (turns .0) (p .length-right) (turns .1),
       λ room h. rw (p .length-right, turns .1, lt-leb (length (turns .0)) room h) refl,

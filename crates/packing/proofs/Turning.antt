@@ -1,12 +1,12 @@
 -- The nodes of a table as they are written, one after another.
 use Prim.Native.Nat.{ℕ, suc, _+_, _*_, _/_, _%_, _<_, _≤_}
 use mathlib.Core.Path.{_≡_, refl, sym, ap, _∙_}
-use mathlib.Core.Bool.{true, false}
-use mathlib.Core.List.{List, _++_}
+use mathlib.Core.Bool.{true, false, cond}
+use mathlib.Core.List.{List, _++_, []}
 use native.Mathlib.Nat.{add-zero}
 use native.Mathlib.Numerals.{add-one}
 use native.Mathlib.Omega.{arith}
-use borrow.Author.Tests.{le-leb, lt-leb, leb-true}
+use borrow.Author.Tests.{le-leb, lt-leb, leb-true, ne-eqb}
 use lib.Dec.{leb, eqb}
 use lib.IntN.{ℤ, pos}
 use lib.ListN.{length, getD, take, drop, length-append}
@@ -20,11 +20,12 @@ use Rattle.plan.proofs.Decoding.{word-at}
 use Rattle.plan.proofs.Outcomes.{turn-more, turn-stays, order-holds, order-fails}
 use Rattle.codec.specs.declared.Step.{Step}
 use Rattle.codec.specs.declared.Step.the-variants.{Next, Stop}
+use Rattle.codec.specs.Plans.{headerOf, noneNew, editionOf}
 use Rattle.packing.specs.Bytes.{groupsOf, bytesOf}
 use Rattle.packing.specs.Packing.{packRules, nodeBytes, packNode, pack, packAnswer, bytesAfter}
 use Rattle.laws.specs.Pieces.{Writes}
 use Rattle.packing.specs.Writing.{Decoded, Breaks, Ended}
-use Rattle.laws.proofs.Pieces.{same-room}
+use Rattle.laws.proofs.Pieces.{then, within, said, same-room}
 use Rattle.packing.proofs.Putting.{groups-enough}
 
 -- what is looked up of a node, by the part of the table that is lent
@@ -79,10 +80,26 @@ module _ (t : List ℤ) (before : List ℕ) (start : ℕ) where
 
 -- ---- the whole
 
--- the count, and then the nodes
-pub first-is : (count : ℕ) (local : List ℕ) {after : List ℕ} {next : ℕ} → count ≤ 256 → Writes (groupsOf 2 count) 2 local 0 after next → 2 ≤ length local → take next after ≡ bytesOf count
-unfolding bytesOf
-first-is count local h w l = taken w l ∙ sym (groups-enough 2 5 count (omega arith) (omega arith) (omega arith))
+-- the edition and the count, and then the nodes
+module _ (t : List ℤ) (count : ℕ) (is : nodeCount t ≡ count) (few : count ≤ 256) {own : ℕ} (e : own ≡ cond (noneNew t count) 1 2) where
+  own-is : editionOf t ≡ own
+  unfolding editionOf
+  own-is = rw is (sym e)
+
+  number : groupsOf 2 count ≡ bytesOf count
+  unfolding bytesOf
+  number = sym (groups-enough 2 5 count (omega arith) (omega arith) (omega arith))
+
+  pub opens-second : {before one two after : List ℕ} {a b next : ℕ} → own ≡ 2 → Writes (groupsOf 1 0) 1 before 0 one a → Writes (groupsOf 1 2) 1 one a two b → Writes (groupsOf 2 count) 2 two b after next
+      → Writes (headerOf (editionOf t) ++ bytesOf count) 4 before 0 after next
+  unfolding groupsOf
+  opens-second q u v w = rw (own-is, q) (then (then u v) (said number w))
+
+  pub opens-first : {before after : List ℕ} {next : ℕ} → (own ≡ 2 → ⊥) → Writes (groupsOf 2 count) 2 before 0 after next → Writes (headerOf (editionOf t) ++ bytesOf count) 4 before 0 after next
+  opens-first n w = rw (own-is, ne-eqb own 2 n) (within 4 (said number w) (omega arith))
+
+pub first-is : {ws local after : List ℕ} {next : ℕ} → Writes ws 4 local 0 after next → 4 ≤ length local → take next after ≡ ws
+first-is w l = taken w l
 
 module _ (t : List ℤ) (buffer : List ℕ) where
   pub wrong-length : lengthRight t ≡ false → pack t (length buffer) ≡ refuse 1 0
@@ -123,10 +140,10 @@ counted t e =
     record { is = refl; fits = omega arith; few = leb-true (length t / 17) 256 (b .1) }
 
 -- room for the nodes after the count
-pub nodes-room : (count : ℕ) {ws local after : List ℕ} {next : ℕ} → Writes ws 2 local 0 after next → length local ≡ 11778 → count ≤ 256 → next + 46 * count ≤ length after
+pub nodes-room : (count : ℕ) {ws local after : List ℕ} {next : ℕ} → Writes ws 4 local 0 after next → length local ≡ 11780 → count ≤ 256 → next + 46 * count ≤ length after
 nodes-room count w l h = omega (arith, w .is-next, w .short, same-room w, l, h)
 
-module _ (t : List ℤ) (room : ℕ) (right : lengthRight t ≡ true) {count : ℕ} (d : Counted t count) {first : List ℕ} (is : first ≡ bytesOf count) where
+module _ (t : List ℤ) (room : ℕ) (right : lengthRight t ≡ true) {count : ℕ} (d : Counted t count) {first : List ℕ} (is : first ≡ headerOf (editionOf t) ++ bytesOf count) where
   pub nodes-refused : {n p : ℕ} → inTurn (packNode t) first count ≡ refuse n p → pack t room ≡ refuse n p
   unfolding pack
   nodes-refused e = rw (right, d .is, ← is, e) refl

@@ -6,11 +6,13 @@ ghost use Prim.Native.Nat.{_+_, _*_, _≤_, _<_};
 ghost use lib.ListN.{length, take, drop};
 ghost use Rattle.plan.specs.Operations.{operationCount};
 ghost use Rattle.plan.specs.Types.{holds};
-ghost use Rattle.packing.specs.Bytes.{groupsOf, packedWord};
+ghost use Rattle.packing.specs.Bytes.{groupsOf, bytesOf, packedWord};
 ghost use Rattle.packing.specs.Packing.{wordRange, wordsTo, nodeBytes, packNode, pack, packAnswer, bytesAfter};
 ghost use Rattle.plan.specs.Answers.{inTurn};
 ghost use Rattle.laws.specs.Pieces.{Writes};
 ghost use Rattle.packing.specs.Writing.{wordBytes, Decoded, allInRange, Breaks, Ended};
+ghost use Rattle.plan.specs.Words.{nodeCount};
+ghost use Rattle.codec.specs.Plans.{headerOf, editionOf};
 
 // A number in at most k groups of seven bits from place `at` on; the place after it.
 fn groups(k: usize, m: usize, bytes: &mut [u8], at: usize) -> usize
@@ -106,7 +108,7 @@ fn broken(w: &[i64], op: usize, mask: usize) -> usize
     requires { ⌜ Decoded (now w) op mask ⌝ }
     ensures { λ r. ⌜ Breaks (now (w .entry)) r ⌝ }
 {
-    if 21 <= op {
+    if !plan::is_operation(op) {
         return 2;
     }
     if !plan::unused_zero(op, mask, w) {
@@ -152,6 +154,19 @@ fn copy(from: &[u8], to: &mut [u8], n: usize)
     }
 }
 
+// The bytes that name the edition, and the count; the place after them.
+fn opening(table: &[i64], count: usize, bytes: &mut [u8]) -> usize
+    requires { ⌜ (nodeCount (now table) ≡ count) × (17 * count ≤ length (now table)) × (count ≤ 256) × (4 ≤ length (now bytes)) ⌝ }
+    ensures { λ r. ⌜ Writes (headerOf (editionOf (now (table .entry))) ++ bytesOf count) 4 (now (bytes .entry)) 0 (now (bytes .exit)) r ⌝ }
+{
+    if codec::edition_of(table, count) == 2 {
+        let one = groups(1, 0, bytes, 0);
+        let two = groups(1, 2, bytes, one);
+        return groups(2, count, bytes, two);
+    }
+    groups(2, count, bytes, 0)
+}
+
 // A table into packed bytes, which stay as they were where it is refused.
 pub fn pack(table: &[i64], bytes: &mut [u8]) -> plan::Answer
     ensures { λ r. ⌜ (r ≡ packAnswer (pack (now (table .entry)) (length (now (bytes .entry))))) × (now (bytes .exit) ≡ bytesAfter (pack (now (table .entry)) (length (now (bytes .entry)))) (now (bytes .entry))) ⌝ }
@@ -160,8 +175,8 @@ pub fn pack(table: &[i64], bytes: &mut [u8]) -> plan::Answer
         return plan::refused(1, 0);
     }
     let count = table.len() / 17;
-    let mut local = [0u8; 11778];
-    let start = groups(2, count, &mut local, 0);
+    let mut local = [0u8; 11780];
+    let start = opening(table, count, &mut local);
     match nodes(table, count, &mut local, start) {
         codec::Step::Stop(number, place) => plan::refused(number as u64, place as u64),
         codec::Step::Next(end) => {

@@ -1,16 +1,18 @@
 -- What holds of each row of a table holds of every operation.
 use Prim.Native.Nat.{ℕ, zero, suc, _+_, _<_, _≤_}
 use mathlib.Core.Path.{_≡_, refl, sym, subst}
-use mathlib.Core.Bool.{Bool, true, false, _||_, cond, false≢true}
+use mathlib.Core.Bool.{Bool, true, false, _&&_, _||_, not, cond, false≢true}
 use mathlib.Core.Logic.{⊎-elim}
 use mathlib.Core.List.{List, [], _∷_, _++_}
 use native.Mathlib.Omega.{arith}
 use native.Mathlib.Nat.{eq-or-lt-of-le}
-use borrow.Author.Tests.{eqb-true}
+use borrow.Author.Tests.{eqb-true, ltb-true, ne-eqb}
 use lib.Dec.{eqb}
 use Rattle.laws.specs.Lists.{allBelow, among}
 use Rattle.laws.proofs.Booleans.{or-true, cond-both, all-below}
-use Rattle.plan.specs.Operations.{Entry, _⇒_, byOperation, operationsOf, coversAll, operationCount, uses, followed, IDIV, MOD}
+use Rattle.plan.specs.declared.Node.{Node}
+use Rattle.plan.specs.Operations.{Entry, _⇒_, byOperation, operationsOf, coversAll, operationCount, isOperation, uses, followed, IDIV, MOD, STACK}
+use Rattle.plan.specs.Words.{sizeOf, inNumber, reads}
 
 -- P holds of each row's value where the row is the operation's
 abbrev pub EachRow : {A : Type 0} → (A → Type 0) → ℕ → List (Entry A) → Type 0
@@ -47,9 +49,16 @@ listed P op ((ops ⇒ a) ∷ rows) other m h =
     go true q e next = h .0 q
     go false q e next = next e
 
-pub by-operation : {A : Type 0} (P : A → Type 0) (op : ℕ) (rows : List (Entry A)) (other : A) → coversAll rows ≡ true → op < operationCount → EachRow P op rows
+-- every operation's number is below their count
+pub operation-small : (op : ℕ) → isOperation op ≡ true → op < operationCount
+unfolding isOperation
+operation-small op h = ltb-true op operationCount h
+
+pub by-operation : {A : Type 0} (P : A → Type 0) (op : ℕ) (rows : List (Entry A)) (other : A) → coversAll rows ≡ true → isOperation op ≡ true → EachRow P op rows
     → P (byOperation op rows other)
-by-operation P op rows other c h each = listed P op rows other (all-below operationCount (λ (op : ℕ). among op (operationsOf rows)) c op h) each
+by-operation P op rows other c h each =
+    let row : (not (isOperation op) || among op (operationsOf rows)) ≡ true = all-below operationCount (λ (op : ℕ). not (isOperation op) || among op (operationsOf rows)) c op (operation-small op h) in
+    listed P op rows other (rw h at row) each
 
 -- ---- a group of operations, one by one
 
@@ -86,3 +95,38 @@ followed-uses op = for-group (λ (k : ℕ). uses k 1 ≡ true) op followed (refl
 pub divides-uses : (op : ℕ) → among op (IDIV ∷ MOD ∷ []) ≡ true → uses op 2 ≡ true
 unfolding among uses
 divides-uses op = for-group (λ (k : ℕ). uses k 2 ≡ true) op (IDIV ∷ MOD ∷ []) (refl then refl then tt)
+
+-- ---- the sources that are read
+
+-- all that an operation uses is read, but word 3 of a STACK
+pub reads-plain : (x : Node) (k : ℕ) → (x .op ≡ STACK → ⊥) → reads x k ≡ uses (x .op) k
+unfolding reads
+reads-plain x k n = rw (ne-eqb (x .op) STACK n) (and-yes (uses (x .op) k))
+  where
+    and-yes : (b : Bool) → (b && true) ≡ b
+    and-yes true = refl
+    and-yes false = refl
+
+pub reads-low : (x : Node) (k : ℕ) → (k ≡ 3 → ⊥) → reads x k ≡ uses (x .op) k
+unfolding reads
+reads-low x k n = rw (ne-eqb k 3 n) (none (uses (x .op) k) (eqb (x .op) STACK))
+  where
+    none : (b c : Bool) → (b && (not (c && false) || eqb (sizeOf (x .number)) 3)) ≡ b
+    none true true = refl
+    none true false = refl
+    none false c = refl
+
+pub stack-third : (x : Node) → x .op ≡ STACK → inNumber x 3 ≡ reads x 3
+unfolding reads uses among
+stack-third x q = rw q refl
+
+-- a STACK reads its third source with number 3
+pub stack-reads : (x : Node) → x .op ≡ STACK → reads x 3 ≡ eqb (sizeOf (x .number)) 3
+unfolding reads uses among
+stack-reads x q = rw q refl
+
+pub followed-reads : (x : Node) → among (x .op) followed ≡ true → reads x 1 ≡ true
+followed-reads x h = rw (reads-low x 1 (λ q. omega arith)) (followed-uses (x .op) h)
+
+pub divides-reads : (x : Node) → among (x .op) (IDIV ∷ MOD ∷ []) ≡ true → reads x 2 ≡ true
+divides-reads x h = rw (reads-low x 2 (λ q. omega arith)) (divides-uses (x .op) h)

@@ -2,13 +2,15 @@
 use Prim.Native.Nat.{ℕ, _<_, _≤_, _^_, _/_, _%_}
 use mathlib.Core.Path.{_≡_, refl, sym}
 use mathlib.Core.Bool.{Bool, true, false, _||_, not, false≢true}
+use mathlib.Core.List.{[]}
+use native.Mathlib.Nat.{zero-div}
 use native.Mathlib.Omega.{arith}
-use borrow.Author.Tests.{leb-true, not-true, lt-leb, le-ltb}
+use borrow.Author.Tests.{leb-true, ltb-true, ltb-false, not-true, lt-leb, le-ltb}
 use lib.Dec.{eqb, leb, ltb}
 use lib.ListN.{getD, List·getD-eq-default}
 use Rattle.laws.specs.Lists.{allBelow, among}
-use Rattle.laws.proofs.Booleans.{all-below}
-use Rattle.plan.specs.Operations.{uses, maskOf, masks, operationCount}
+use Rattle.laws.proofs.Booleans.{bool-cases, all-below}
+use Rattle.plan.specs.Operations.{uses, usedWords, maskOf, masks, operationCount}
 
 abbrev same : Bool → Bool → Bool
 same true b = b
@@ -38,6 +40,16 @@ mask-bit op k h l =
 pub mask-none : (op : ℕ) → operationCount ≤ op → getD masks op 0 ≡ 0
 unfolding masks
 mask-none op h = List·getD-eq-default masks 0 {n = op} h
+
+uses-none : (op k : ℕ) → operationCount ≤ op → uses op k ≡ false
+unfolding uses among
+uses-none op k h = rw (List·getD-eq-default usedWords [] {n = op} h) refl
+
+-- of any number: what is no operation uses no word
+pub mask-uses : (op k : ℕ) → k < 17 → eqb (getD masks op 0 / 2 ^ k % 2) 1 ≡ uses op k
+mask-uses op k l =
+    bool-cases (ltb op operationCount) (λ e. mask-bit op k (ltb-true op operationCount e) l)
+    (λ e. let h : operationCount ≤ op = ltb-false op operationCount e in rw (mask-none op h, zero-div, uses-none op k h) refl)
 
 -- no mask has bits above that of word 16
 abbrev low : ℕ → Bool

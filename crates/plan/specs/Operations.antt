@@ -1,7 +1,8 @@
 -- The operations, the words that each uses, and tables by operation.
 use Prim.Native.Nat.{ℕ, _+_, _^_}
-use mathlib.Core.Bool.{Bool, true, false, cond}
+use mathlib.Core.Bool.{Bool, true, false, _&&_, _||_, not, cond}
 use mathlib.Core.List.{List, [], _∷_, _++_, map}
+use lib.Dec.{ltb, eqb}
 use lib.ListN.{getD}
 use Rattle.laws.specs.Lists.{allBelow, among}
 
@@ -69,9 +70,22 @@ REDUCE = 19
 abbrev pub LOAD : ℕ
 LOAD = 20
 
--- "operation not 0..20"
+abbrev pub FILL : ℕ
+FILL = 21
+
+abbrev pub KNOWN : ℕ
+KNOWN = 22
+
+abbrev pub STACK : ℕ
+STACK = 23
+
+-- "in 01's rule 2 .. the limit is 23"
 abbrev pub operationCount : ℕ
-operationCount = 21
+operationCount = 24
+
+-- "at least one new operation": those that came with the second edition of the file
+abbrev pub newOperations : List ℕ
+newOperations = FILL ∷ KNOWN ∷ STACK ∷ []
 
 -- "words used", from operation 0 on. Word 0, the operation itself, is in no row.
 abbrev pub usedWords : List (List ℕ)
@@ -97,11 +111,26 @@ usedWords =
     ∷ (1 ∷ 2 ∷ 3 ∷ [])
     ∷ (1 ∷ 5 ∷ 9 ∷ 10 ∷ 11 ∷ 12 ∷ [])
     ∷ (1 ∷ 6 ∷ [])
+    ∷ (1 ∷ 2 ∷ [])
+    ∷ (1 ∷ [])
+    ∷ (1 ∷ 2 ∷ 3 ∷ 5 ∷ [])
     ∷ []
 
 -- operation op uses word k
 unfoldable pub uses : ℕ → ℕ → Bool
 uses op k = among k (getD usedWords op [])
+
+-- one of them
+unfoldable pub isNew : ℕ → Bool
+isNew op = among op newOperations
+
+-- rule 2's operations
+unfoldable pub isOperation : ℕ → Bool
+isOperation op = ltb op operationCount
+
+-- rule 24's operations: those of a file of edition 1 or 2. "First edition readers keep refusing .. 24"; "for second edition files, rule 24 the limit is 23"
+unfoldable pub inFile : ℕ → ℕ → Bool
+inFile edition op = isOperation op && (eqb edition 2 || not (isNew op))
 
 -- "a constant table indexed by its number": the same words as a mask, bit k for word k
 unfoldable pub maskOf : List ℕ → ℕ
@@ -144,7 +173,7 @@ pub data Entry (A : Type 0) : Type 0 where
   _⇒_ : List ℕ → A → Entry A
 
 infix 68 _⇒_
--- The row of operation op. Every table has a row for each of 0..20 (`coversAll`, shown in its crate's proofs/Tables.antt);
+-- The row of operation op. Every table has a row for each of 0..23 (`coversAll`, shown in its crate's proofs/Tables.antt);
 -- the last argument stands for the numbers that are no operation, which rule 2 refuses.
 abbrev pub byOperation : {A : Type 0} → ℕ → List (Entry A) → A → A
 byOperation op [] other = other
@@ -156,4 +185,4 @@ operationsOf [] = []
 operationsOf ((ops ⇒ a) ∷ rows) = ops ++ operationsOf rows
 
 abbrev pub coversAll : {A : Type 0} → List (Entry A) → Bool
-coversAll rows = allBelow operationCount (λ (op : ℕ). among op (operationsOf rows))
+coversAll rows = allBelow operationCount (λ (op : ℕ). not (isOperation op) || among op (operationsOf rows))

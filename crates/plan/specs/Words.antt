@@ -1,6 +1,6 @@
 -- The words of a node.
 use Prim.Native.Nat.{ℕ, zero, suc, _+_, _*_, _/_, _%_}
-use mathlib.Core.Bool.{Bool, true, false, _&&_, _||_, cond}
+use mathlib.Core.Bool.{Bool, true, false, _&&_, _||_, cond, not}
 use mathlib.Core.List.{List, [], _∷_}
 use lib.IntN.{ℤ, pos, negsuc}
 use lib.Dec.{eqb, leb}
@@ -10,7 +10,7 @@ use Rattle.plan.specs.declared.NodeNumber.{NodeNumber}
 use Rattle.plan.specs.declared.ElementNumber.{ElementNumber}
 use Rattle.plan.specs.declared.Row.{Row}
 use Rattle.plan.specs.declared.Node.{Node}
-use Rattle.plan.specs.Operations.{PARAM, uses}
+use Rattle.plan.specs.Operations.{PARAM, uses, STACK}
 
 -- "A plan is a table of 1 to 256 nodes, each of 17 signed 64-bit words."
 abbrev pub wordsPerNode : ℕ
@@ -67,6 +67,14 @@ wordsOf t n = take wordsPerNode (drop (wordsPerNode * n) t)
 
 unfoldable pub nodeAt : List ℤ → ℕ → Node
 nodeAt t n = nodeOf (wordsOf t n)
+
+-- STACK has as many sources as its number says: "rules 4 and 6 read word 3 only with number 3"
+abbrev pub inNumber : Node → ℕ → Bool
+inNumber x k = not (eqb (x .op) STACK && eqb k 3) || eqb (sizeOf (x .number)) 3
+
+-- Source k (1 to 3) is read. Word 3 of a STACK of two is a used word that is no source.
+unfoldable pub reads : Node → ℕ → Bool
+reads x k = uses (x .op) k && inNumber x k
 
 -- how many nodes a table has
 unfoldable pub nodeCount : List ℤ → ℕ

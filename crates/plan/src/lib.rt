@@ -5,9 +5,9 @@ ghost use lib.IntN.{pos};
 ghost use Prim.Native.Nat.{_+_, _*_, _/_, _%_, _^_, _<_, _≤_};
 ghost use lib.Dec.{eqb};
 ghost use lib.ListN.{length, getD};
-ghost use Rattle.plan.specs.Operations.{masks, operationCount};
+ghost use Rattle.plan.specs.Operations.{masks, operationCount, isOperation};
 ghost use Rattle.plan.specs.Types.{rangeOf};
-ghost use Rattle.plan.specs.Words.{sizeOf, sizeAt, rowAt, nodeOf, nodeAt, lengthRight, unusedZero};
+ghost use Rattle.plan.specs.Words.{sizeOf, sizeAt, rowAt, nodeOf, nodeAt, lengthRight, inNumber, reads, unusedZero};
 
 // The number of a node in its plan. Never taken for an element number.
 pub struct NodeNumber(pub usize);
@@ -53,7 +53,7 @@ pub struct Answer {
 }
 
 // The words that each operation uses, by its number: bit k for word k.
-const MASKS: [usize; 21] = [
+const MASKS: [usize; 24] = [
     48,
     8176,
     7682,
@@ -75,13 +75,23 @@ const MASKS: [usize; 21] = [
     14,
     7714,
     66,
+    6,
+    2,
+    46,
 ];
+
+// An operation has this number.
+pub fn is_operation(op: usize) -> bool
+    ensures { λ r. ⌜ r ≡ isOperation op ⌝ }
+{
+    op < 24
+}
 
 // The mask of an operation, 0 where there is no such operation.
 pub fn used_mask(op: usize) -> usize
     ensures { λ r. ⌜ r ≡ getD masks op 0 ⌝ }
 {
-    if op < 21 {
+    if op < 24 {
         return MASKS[op];
     }
     0
@@ -122,6 +132,23 @@ pub fn size_of_word(w: i64) -> usize
         return 18446744073709551615;
     }
     w as usize
+}
+
+// Source k is one of as many as a STACK's number says; of other operations always.
+pub fn in_number(x: Node, k: usize) -> bool
+    ensures { λ r. ⌜ r ≡ inNumber x k ⌝ }
+{
+    let op = x.op;
+    let number = x.number;
+    !((op == 23) & (k == 3)) | (size_of_word(number) == 3)
+}
+
+// A node with that mask reads source k: its operation uses word k, and a STACK has so many sources.
+pub fn reads(x: Node, mask: usize, k: usize) -> bool
+    requires { ⌜ (mask ≡ getD masks (x .op) 0) × (k < 17) ⌝ }
+    ensures { λ r. ⌜ r ≡ reads x k ⌝ }
+{
+    uses_word(mask, k) & in_number(x, k)
 }
 
 // The word at a place of a table, as a count.

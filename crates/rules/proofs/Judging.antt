@@ -3,6 +3,7 @@ use Prim.Native.Nat.{ℕ, _<_, _≤_}
 use mathlib.Core.Path.{_≡_, refl, _∙_, subst}
 use mathlib.Core.Bool.{Bool, true, false, _||_, not}
 use mathlib.Core.List.{List, [], _∷_}
+use native.Mathlib.Omega.{arith}
 use borrow.Author.Tests.{le-leb, lt-leb, leb-true}
 use lib.Dec.{eqb, leb}
 use lib.IntN.{pos}
@@ -12,7 +13,7 @@ use Rattle.laws.specs.Numbering.{count}
 use Rattle.laws.proofs.Booleans.{and-true, off, on}
 use Rattle.plan.specs.declared.Interval.{Interval}
 use Rattle.plan.specs.declared.Node.{Node}
-use Rattle.plan.specs.Operations.{PAD, SHRINK, operationCount, byOperation}
+use Rattle.plan.specs.Operations.{PAD, SHRINK, isOperation, byOperation}
 use Rattle.plan.specs.Types.{holds, contains, rangeOf}
 use Rattle.plan.specs.Words.{listOf}
 use Rattle.plan.specs.Answers.{AllHold, FirstFailing}
@@ -30,6 +31,7 @@ use Rattle.rules.specs.declared.Shaped.{Shaped}
 use Rattle.rules.specs.declared.Shaped.the-variants.{Fits, Misfits}
 use Rattle.rules.specs.declared.Judged.{Judged}
 use Rattle.rules.specs.declared.Judged.the-variants.{Meets, Breaks}
+use Rattle.rules.proofs.RowRule.{stack-rule}
 use Rattle.rules.specs.Code.{shapeRulesOf, valueRulesOf, Shapes, Ready, Values, Judges}
 
 -- ---- what rule 7 leaves for the shape rules
@@ -56,8 +58,15 @@ module _ (x : Node) (params rank : ℕ) (rows : rowsRight x params rank ≡ true
       then tt)
       m rows
 
-  pub rows-tested : (s : List ℕ) → x .op < operationCount → count s ≤ elementLimit → Tested x s
-  rows-tested s h l = record { operation = h; row-a = narrow-a; row-b = narrow-b; counted = λ q. l }
+  pub rows-tested : (s : List ℕ) → isOperation (x .op) ≡ true → count s ≤ elementLimit → Tested x s
+  rows-tested s h l =
+      record {
+        operation = h;
+        row-a = narrow-a;
+        row-b = narrow-b;
+        counted = λ q. l;
+        stacked = λ q. let n = stack-rule x params rank rows q in (omega (arith, n .0), n .1);
+      }
 
 -- ---- rules 5 to 8
 
@@ -66,7 +75,7 @@ module _ (x : Node) (params : ℕ) (a b c : Derived) where
     pub breaks-5 : not r5 ≡ true → FirstFailing (shapeRulesOf x params a b c) 5
     breaks-5 f = fails-here (typeNamed x) (off r5 e5 f)
 
-    module _ (n5 : not r5 ≡ false) (r6 : Bool) (e6 : r6 ≡ typesAgree (x .op) (a .dtype) (b .dtype) (c .dtype)) where
+    module _ (n5 : not r5 ≡ false) (r6 : Bool) (e6 : r6 ≡ typesAgree x (a .dtype) (b .dtype) (c .dtype)) where
       pub breaks-6 : not r6 ≡ true → FirstFailing (shapeRulesOf x params a b c) 6
       breaks-6 f = holds-then (typeNamed x) (on r5 e5 n5) (fails-here _ (off r6 e6 f))
 
@@ -153,7 +162,7 @@ bounds-of x s e p q t = e ∙ rw (p, q, t) refl
 -- ---- rules 5 to 11 together
 
 module _ (x : Node) (params : ℕ) (a b c : Derived) where
-  pub ready-of : {s : Shaped} {e : Shape} {n : ℕ} → Shapes x params a b c s → s ≡ Fits e n → x .op < operationCount → count (a .extents) ≤ elementLimit → Ready x params a b c e n
+  pub ready-of : {s : Shaped} {e : Shape} {n : ℕ} → Shapes x params a b c s → s ≡ Fits e n → isOperation (x .op) ≡ true → count (a .extents) ≤ elementLimit → Ready x params a b c e n
   ready-of h q k l =
       let f = subst (λ (s : Shaped). Shapes x params a b c s) q h in
       record { known = k; held = f .0; shape = f .1; counted = f .2; few = l }

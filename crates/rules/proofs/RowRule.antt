@@ -1,16 +1,18 @@
 -- Rule 7, by ranges of operations as the code asks for them.
 use Prim.Native.Nat.{ℕ, _<_, _≤_}
 use mathlib.Core.Path.{_≡_, refl}
-use mathlib.Core.Bool.{Bool, true, false, _&&_}
+use mathlib.Core.Bool.{Bool, true, false, _&&_, _||_}
 use native.Mathlib.Omega.{arith}
-use lib.Dec.{leb}
+use borrow.Author.Tests.{eqb-true}
+use lib.Dec.{leb, eqb}
 use Rattle.laws.specs.Lists.{among}
+use Rattle.laws.proofs.Booleans.{and-true, or-true}
 use Rattle.plan.specs.declared.Node.{Node}
-use Rattle.plan.specs.Operations.{PERMUTE, byOperation}
+use Rattle.plan.specs.Operations.{PERMUTE, STACK, isOperation, byOperation}
 use Rattle.plan.specs.Words.{sizeOf, listOf}
-use Rattle.plan.proofs.ByOperation.{_then_, for-range}
+use Rattle.plan.proofs.ByOperation.{_then_, for-range, operation-small}
 use Rattle.shapes.specs.Rows.{isShapeRow, isFlagRow, isOffsetRow, isPermutation}
-use Rattle.rules.specs.Rules.{deviceNamed, paramRight, rowRules, rowsRight}
+use Rattle.rules.specs.Rules.{deviceNamed, paramRight, stackNumber, rowRules, rowsRight}
 
 module _ (x : Node) (params rank : ℕ) where
   abbrev rowsAt : ℕ → Bool
@@ -50,9 +52,17 @@ module _ (x : Node) (params rank : ℕ) where
   unfolding rowsRight among
   rows-reduce q = rw q refl
 
-  pub rows-load : 19 ≤ x .op → (x .op ≡ 19 → ⊥) → x .op < 21 → deviceNamed x ≡ rowsRight x params rank
+  pub rows-load : x .op ≡ 20 → deviceNamed x ≡ rowsRight x params rank
   unfolding rowsRight among
-  rows-load l n h = for-range (λ (k : ℕ). deviceNamed x ≡ rowsAt k) (x .op) 20 1 (refl then tt) (omega arith) h
+  rows-load q = rw q refl
+
+  pub rows-none : 19 ≤ x .op → (x .op ≡ 19 → ⊥) → (x .op ≡ 20 → ⊥) → x .op < 23 → true ≡ rowsRight x params rank
+  unfolding rowsRight among
+  rows-none l m n h = for-range (λ (k : ℕ). true ≡ rowsAt k) (x .op) 21 2 (refl then refl then tt) (omega arith) h
+
+  pub rows-stack : {n : ℕ} → 23 ≤ x .op → isOperation (x .op) ≡ true → n ≡ sizeOf (x .number) → (eqb n 3 || (eqb n 2 && eqb (x .source3 .0) 0)) ≡ rowsRight x params rank
+  unfolding rowsRight stackNumber among
+  rows-stack l k e = let q : x .op ≡ 23 = omega (arith, operation-small (x .op) k) in rw (q, e) refl
 
 -- what is left after 0 to 3
 pub left-of-four : {op : ℕ} → (op ≡ 0 → ⊥) → (op ≡ 1 → ⊥) → (op ≡ 2 → ⊥) → (op ≡ 3 → ⊥) → 4 ≤ op
@@ -62,3 +72,12 @@ left-of-four a b c d = omega arith
 pub permute-rule : (x : Node) (params rank : ℕ) → rowsRight x params rank ≡ true → x .op ≡ PERMUTE → isPermutation rank (listOf (x .rowa)) ≡ true
 unfolding rowsRight among
 permute-rule x params rank e q = rw q at e
+
+-- rule 7 of a STACK: it has two or three sources
+pub stack-rule : (x : Node) (params rank : ℕ) → rowsRight x params rank ≡ true → x .op ≡ STACK → (2 ≤ sizeOf (x .number)) × (sizeOf (x .number) ≤ 3)
+unfolding rowsRight stackNumber among
+stack-rule x params rank e q =
+    let f : (eqb (sizeOf (x .number)) 3 || (eqb (sizeOf (x .number)) 2 && eqb (x .source3 .0) 0)) ≡ true = rw q at e in
+    or-true (eqb (sizeOf (x .number)) 3) (eqb (sizeOf (x .number)) 2 && eqb (x .source3 .0) 0) f
+    (λ h. let z : sizeOf (x .number) ≡ 3 = eqb-true _ _ h in (omega arith, omega arith))
+    (λ h. let z : sizeOf (x .number) ≡ 2 = eqb-true _ _ (and-true (eqb (sizeOf (x .number)) 2) (eqb (x .source3 .0) 0) h .0) in (omega arith, omega arith))

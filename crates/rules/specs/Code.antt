@@ -4,11 +4,10 @@ use mathlib.Core.Path.{_≡_}
 use mathlib.Core.Bool.{true}
 use mathlib.Core.List.{List, [], _∷_, _++_}
 use lib.IntN.{ℤ}
-use lib.Dec.{ltb}
 use lib.ListN.{getD, length}
 use Rattle.laws.specs.Numbering.{count}
 use Rattle.plan.specs.declared.Node.{Node}
-use Rattle.plan.specs.Operations.{REDUCE, masks, operationCount}
+use Rattle.plan.specs.Operations.{REDUCE, masks, isOperation}
 use Rattle.plan.specs.Words.{listOf, wordsOf, nodeAt, unusedZero}
 use Rattle.plan.specs.Answers.{Rule, rule, AllHold, FirstFailing}
 use Rattle.shapes.specs.declared.Shape.{Shape}
@@ -25,7 +24,7 @@ use Rattle.rules.specs.Rules.{Derived, sourcesEarlier, typeNamed, typesA
 
 -- the mask of an operation that is there
 pub record Masked (op mask : ℕ) : Type 0 where
-  pub known : op < operationCount
+  pub known : isOperation op ≡ true
   pub is-mask : mask ≡ getD masks op 0
 
 -- r is the type of a result, a byte where a type that is named is one; and its device
@@ -45,7 +44,7 @@ viewOf d = record { dtype = d .dtype; device = d .device; bounds = wideOf (d .bo
 abbrev pub shapeRulesOf : Node → ℕ → Derived → Derived → Derived → List Rule
 shapeRulesOf x params a b c =
     rule 5 (typeNamed x)
-    ∷ rule 6 (typesAgree (x .op) (a .dtype) (b .dtype) (c .dtype))
+    ∷ rule 6 (typesAgree x (a .dtype) (b .dtype) (c .dtype))
     ∷ rule 7 (rowsRight x params (length (a .extents)))
     ∷ rule 8 (shapeRight x (a .extents) (b .extents) (c .extents))
     ∷ []
@@ -76,7 +75,7 @@ Judges x params a b c (Breaks number) = FirstFailing (shapeRulesOf x params a b 
 
 -- what rules 5 to 8 leave for those after them: the rules, and the shape e that n elements have
 pub record Ready (x : Node) (params : ℕ) (a b c : Derived) (e : Shape) (n : ℕ) : Type 0 where
-  pub known : x .op < operationCount
+  pub known : isOperation (x .op) ≡ true
   pub held : AllHold (shapeRulesOf x params a b c)
   pub shape : shown e ≡ resultExtents x (a .extents) (b .extents) (c .extents)
   pub counted : n ≡ count (shown e)
@@ -90,7 +89,7 @@ pub record Gathers (x : Node) (s : List ℕ) (n : ℕ) : Type 0 where
 -- rules 2 to 4 of node i
 abbrev pub earlyRulesOf : List ℤ → ℕ → List Rule
 earlyRulesOf t i =
-    rule 2 (ltb (nodeAt t i .op) operationCount)
+    rule 2 (isOperation (nodeAt t i .op))
     ∷ rule 3 (unusedZero (nodeAt t i .op) (wordsOf t i))
     ∷ rule 4 (sourcesEarlier (nodeAt t i) i)
     ∷ []

@@ -11,9 +11,9 @@ use Rattle.laws.specs.Numbering.{count}
 use Rattle.plan.specs.declared.NodeNumber.{NodeNumber}
 use Rattle.plan.specs.declared.Interval.{Interval}
 use Rattle.plan.specs.declared.Node.{Node}
-use Rattle.plan.specs.Operations.{CONST, PARAM, PERMUTE, FLIP, RESHAPE, EXPAND, PAD, SHRINK, CAST, IDIV, MOD, CMPLT, CMPNE, WHERE, REDUCE, LOAD, operationCount, uses, movements, arithmetic, comparisons, logical, binaries, Entry, _⇒_, byOperation}
+use Rattle.plan.specs.Operations.{CONST, PARAM, PERMUTE, FLIP, RESHAPE, EXPAND, PAD, SHRINK, CAST, IDIV, MOD, CMPLT, CMPNE, WHERE, REDUCE, LOAD, FILL, KNOWN, STACK, isOperation, uses, movements, arithmetic, comparisons, logical, binaries, Entry, _⇒_, byOperation}
 use Rattle.plan.specs.Types.{between, holds, contains, bool, rangeOf}
-use Rattle.plan.specs.Words.{sizeOf, listOf, nodeOf, unusedZero}
+use Rattle.plan.specs.Words.{sizeOf, listOf, nodeOf, unusedZero, reads}
 use Rattle.plan.specs.Answers.{Rule, rule}
 use Rattle.shapes.specs.Rows.{isShapeRow, isFlagRow, isOffsetRow, isPermutation}
 use Rattle.shapes.specs.Rules.{elementLimit, shapesAgree, resultExtents}
@@ -26,22 +26,23 @@ pub record Derived : Type 0 where
   pub bounds : Interval
   pub extents : List ℕ
 
--- what stands for a source that the operation does not use
+-- what stands for a source that is not read
 abbrev pub noSource : Derived
 noSource = record { dtype = bool; device = 0; bounds = between (pos 0) (pos 0); extents = [] }
 
--- source k (1 to 3) among the earlier nodes' records, where the operation uses it
-unfoldable pub sourceOf : List Derived → ℕ → ℕ → NodeNumber → Derived
-sourceOf earlier op k n = cond (uses op k) (getD earlier (n .0) noSource) noSource
+-- source k (1 to 3) of node x among the earlier nodes' records, where it is read
+unfoldable pub sourceOf : List Derived → Node → ℕ → NodeNumber → Derived
+sourceOf earlier x k n = cond (reads x k) (getD earlier (n .0) noSource) noSource
 
 abbrev pub implies : Bool → Bool → Bool
 implies p q = not p || q
 
 -- "4: source negative or not earlier"; n is the node's own number. "Sources are numbers of earlier nodes."
+-- "rules 4 and 6 read word 3 only with number 3"
 unfoldable pub sourcesEarlier : Node → ℕ → Bool
 sourcesEarlier x n =
-    implies (uses (x .op) 1) (ltb (x .source1 .0) n)
-    && (implies (uses (x .op) 2) (ltb (x .source2 .0) n) && implies (uses (x .op) 3) (ltb (x .source3 .0) n))
+    implies (reads x 1) (ltb (x .source1 .0) n)
+    && (implies (reads x 2) (ltb (x .source2 .0) n) && implies (reads x 3) (ltb (x .source3 .0) n))
 
 -- "5: word 4 used and not 0..3"
 unfoldable pub typeNamed : Node → Bool
@@ -49,18 +50,20 @@ typeNamed x = implies (uses (x .op) 4) (leb (x .dtype) 3)
 
 -- "6: type rule broken (operands differ, bool misplaced, WHERE condition not bool)"; a, b and c are the sources' types.
 -- "Matching types of two operands are from source document 001."
-abbrev pub typeRules : ℕ → ℕ → ℕ → List (Entry Bool)
-typeRules a b c =
-    (CONST ∷ PARAM ∷ CAST ∷ LOAD ∷ movements) ⇒ true
+-- FILL: "same type". STACK: "all .. types equal".
+abbrev pub typeRules : Node → ℕ → ℕ → ℕ → List (Entry Bool)
+typeRules x a b c =
+    (CONST ∷ PARAM ∷ CAST ∷ LOAD ∷ KNOWN ∷ movements) ⇒ true
     ∷ (arithmetic ++ CMPLT ∷ []) ⇒ (eqb a b && not (eqb a bool))
-    ∷ (CMPNE ∷ []) ⇒ eqb a b
+    ∷ (CMPNE ∷ FILL ∷ []) ⇒ eqb a b
     ∷ logical ⇒ (eqb a b && eqb a bool)
     ∷ (WHERE ∷ []) ⇒ (eqb a bool && eqb b c)
     ∷ (REDUCE ∷ []) ⇒ not (eqb a bool)
+    ∷ (STACK ∷ []) ⇒ (eqb a b && implies (reads x 3) (eqb b c))
     ∷ []
 
-unfoldable pub typesAgree : ℕ → ℕ → ℕ → ℕ → Bool
-typesAgree op a b c = byOperation op (typeRules a b c) false
+unfoldable pub typesAgree : Node → ℕ → ℕ → ℕ → Bool
+typesAgree x a b c = byOperation (x .op) (typeRules x a b c) false
 
 -- "a device used is 1..255"
 unfoldable pub deviceNamed : Node → Bool
@@ -70,12 +73,16 @@ deviceNamed x = leb 1 (x .device) && leb (x .device) 255
 unfoldable pub paramRight : Node → ℕ → Bool
 paramRight x k = (eqb (sizeOf (x .number)) k && leb k 15) && leZ (x .low) (x .high)
 
+-- "STACK's number, or a word 3 not zero with number 2, is 7"
+unfoldable pub stackNumber : Node → Bool
+stackNumber x = eqb (sizeOf (x .number)) 3 || (eqb (sizeOf (x .number)) 2 && eqb (x .source3 .0) 0)
+
 -- "7: row or number wrong"; `params` PARAMs stand before, and `rank` is the first source's
 abbrev pub rowRules : Node → ℕ → ℕ → List (Entry Bool)
 rowRules x params rank =
     let a = listOf (x .rowa) in
     let b = listOf (x .rowb) in
-    (CONST ∷ CAST ∷ WHERE ∷ binaries) ⇒ true
+    (CONST ∷ CAST ∷ WHERE ∷ FILL ∷ KNOWN ∷ binaries) ⇒ true
     ∷ (PARAM ∷ []) ⇒ (paramRight x params && (deviceNamed x && isShapeRow a))
     ∷ (LOAD ∷ []) ⇒ deviceNamed x
     ∷ (REDUCE ∷ []) ⇒ (leb (sizeOf (x .number)) 1 && isFlagRow rank a)
@@ -83,6 +90,7 @@ rowRules x params rank =
     ∷ (FLIP ∷ []) ⇒ isFlagRow rank a
     ∷ (PAD ∷ SHRINK ∷ []) ⇒ (isShapeRow a && isOffsetRow rank b)
     ∷ (RESHAPE ∷ EXPAND ∷ []) ⇒ isShapeRow a
+    ∷ (STACK ∷ []) ⇒ stackNumber x
     ∷ []
 
 unfoldable pub rowsRight : Node → ℕ → ℕ → Bool
@@ -104,11 +112,12 @@ unfoldable pub devicesAgree : ℕ → ℕ → ℕ → Bool
 devicesAgree d e f = oneDevice d e && oneDevice (joinDevice d e) f
 
 -- "CONST has device 0. PARAM and LOAD name theirs, 1..255. Others take the one non-zero device of their sources, or 0"
+-- "All three carry devices as binary operations do"
 abbrev pub deviceRules : Node → ℕ → ℕ → ℕ → List (Entry ℕ)
 deviceRules x d e f =
     (CONST ∷ []) ⇒ 0
     ∷ (PARAM ∷ LOAD ∷ []) ⇒ x .device
-    ∷ (CAST ∷ WHERE ∷ REDUCE ∷ movements ++ binaries) ⇒ joinDevice (joinDevice d e) f
+    ∷ (CAST ∷ WHERE ∷ REDUCE ∷ FILL ∷ KNOWN ∷ STACK ∷ movements ++ binaries) ⇒ joinDevice (joinDevice d e) f
     ∷ []
 
 unfoldable pub resultDevice : Node → ℕ → ℕ → ℕ → ℕ
@@ -122,8 +131,8 @@ divisorRight op b = implies (among op (IDIV ∷ MOD ∷ [])) (not (holds b (pos 
 abbrev pub resultTypes : Node → ℕ → ℕ → List (Entry ℕ)
 resultTypes x a b =
     (CONST ∷ PARAM ∷ CAST ∷ []) ⇒ x .dtype
-    ∷ (LOAD ∷ REDUCE ∷ movements ++ arithmetic) ⇒ a
-    ∷ (comparisons ++ logical) ⇒ bool
+    ∷ (LOAD ∷ REDUCE ∷ FILL ∷ STACK ∷ movements ++ arithmetic) ⇒ a
+    ∷ (KNOWN ∷ comparisons ++ logical) ⇒ bool
     ∷ (WHERE ∷ []) ⇒ b
     ∷ []
 
@@ -148,11 +157,11 @@ boundsInType d = contains (rangeOf (d .dtype)) (d .bounds)
 abbrev pub rulesOf : ℕ → ℕ → List ℤ → Derived → Derived → Derived → List Rule
 rulesOf n params w a b c =
     let x = nodeOf w in
-    rule 2 (ltb (x .op) operationCount)
+    rule 2 (isOperation (x .op))
     ∷ rule 3 (unusedZero (x .op) w)
     ∷ rule 4 (sourcesEarlier x n)
     ∷ rule 5 (typeNamed x)
-    ∷ rule 6 (typesAgree (x .op) (a .dtype) (b .dtype) (c .dtype))
+    ∷ rule 6 (typesAgree x (a .dtype) (b .dtype) (c .dtype))
     ∷ rule 7 (rowsRight x params (length (a .extents)))
     ∷ rule 8 (shapeRight x (a .extents) (b .extents) (c .extents))
     ∷ rule 9 (devicesAgree (a .device) (b .device) (c .device))

@@ -1,9 +1,10 @@
 // The rules of one node, and what is derived of it.
 ghost use mathlib.Core.Path.{_≡_};
+ghost use mathlib.Core.Bool.{true};
 ghost use Prim.Native.Nat.{ℕ, _+_, _*_, _≤_, _<_};
 ghost use Rattle.rules.specs.Rules.{typesAgree, oneDevice, joinDevice, devicesAgree, deviceNamed, paramRight, sourcesEarlier, typeNamed, rowsRight, noSource, divisorRight};
 ghost use lib.ListN.{length, getD};
-ghost use Rattle.plan.specs.Operations.{masks};
+ghost use Rattle.plan.specs.Operations.{masks, isOperation};
 ghost use Rattle.plan.specs.Words.{nodeAt};
 ghost use Rattle.rules.specs.Code.{Masked, TypeOf, DeviceOf, viewOf, Shapes, Gathers, Ready, Values, Judges, Early};
 ghost use Rattle.laws.specs.Numbering.{count};
@@ -15,10 +16,11 @@ use plan::Node;
 use shapes::Shape;
 
 // Rule 6: the sources' types suit the operation. 0 is bool.
-fn types_agree(op: usize, a: u8, b: u8, c: u8) -> bool
-    requires { ⌜ op < 21 ⌝ }
-    ensures { λ r. ⌜ r ≡ typesAgree op a b c ⌝ }
+fn types_agree(x: Node, a: u8, b: u8, c: u8) -> bool
+    requires { ⌜ isOperation (x .op) ≡ true ⌝ }
+    ensures { λ r. ⌜ r ≡ typesAgree x a b c ⌝ }
 {
+    let op = x.op;
     if op < 9 {
         return true;
     }
@@ -36,6 +38,12 @@ fn types_agree(op: usize, a: u8, b: u8, c: u8) -> bool
     }
     if op == 19 {
         return !(a == 0);
+    }
+    if op == 21 {
+        return a == b;
+    }
+    if op == 23 {
+        return (a == b) & (!plan::in_number(x, 3) | (b == c));
     }
     true
 }
@@ -63,7 +71,7 @@ fn devices_agree(d: u8, e: u8, f: u8) -> bool
 
 // The device of a result.
 fn result_device(x: Node, d: u8, e: u8, f: u8) -> usize
-    requires { ⌜ x .op < 21 ⌝ }
+    requires { ⌜ isOperation (x .op) ≡ true ⌝ }
     ensures { λ r. ⌜ DeviceOf x d e f r ⌝ }
 {
     let op = x.op;
@@ -81,7 +89,7 @@ fn result_device(x: Node, d: u8, e: u8, f: u8) -> usize
 
 // The type of a result.
 fn result_type(x: Node, a: u8, b: u8) -> usize
-    requires { ⌜ x .op < 21 ⌝ }
+    requires { ⌜ isOperation (x .op) ≡ true ⌝ }
     ensures { λ r. ⌜ TypeOf x a b r ⌝ }
 {
     let op = x.op;
@@ -99,6 +107,9 @@ fn result_type(x: Node, a: u8, b: u8) -> usize
     }
     if op == 18 {
         return b as usize;
+    }
+    if op == 22 {
+        return 0;
     }
     a as usize
 }
@@ -121,17 +132,17 @@ fn param_right(x: Node, k: usize) -> bool
     ((plan::size_of_word(slot) == k) & (k <= 15)) & (low <= high)
 }
 
-// Rule 4: the sources that are used are numbers of earlier nodes.
+// Rule 4: the sources that are read are numbers of earlier nodes.
 fn sources_earlier(x: Node, mask: usize, n: usize) -> bool
-    requires { ⌜ Masked (x .op) mask ⌝ }
+    requires { ⌜ mask ≡ getD masks (x .op) 0 ⌝ }
     ensures { λ r. ⌜ r ≡ sourcesEarlier x n ⌝ }
 {
     let s1 = x.source1;
     let s2 = x.source2;
     let s3 = x.source3;
-    let first = !plan::uses_word(mask, 1) | (s1.0 < n);
-    let second = !plan::uses_word(mask, 2) | (s2.0 < n);
-    let third = !plan::uses_word(mask, 3) | (s3.0 < n);
+    let first = !plan::reads(x, mask, 1) | (s1.0 < n);
+    let second = !plan::reads(x, mask, 2) | (s2.0 < n);
+    let third = !plan::reads(x, mask, 3) | (s3.0 < n);
     first & (second & third)
 }
 
@@ -183,7 +194,7 @@ pub fn blank() -> Record
 
 // Rule 7: rows and numbers.
 fn rows_right(x: Node, params: usize, rank: usize) -> bool
-    requires { ⌜ x .op < 21 ⌝ }
+    requires { ⌜ isOperation (x .op) ≡ true ⌝ }
     ensures { λ r. ⌜ r ≡ rowsRight x params rank ⌝ }
 {
     let op = x.op;
@@ -214,7 +225,15 @@ fn rows_right(x: Node, params: usize, rank: usize) -> bool
     if op == 19 {
         return (plan::size_of_word(number) <= 1) & shapes::is_flag_row(rank, a);
     }
-    device_named(x)
+    if op == 20 {
+        return device_named(x);
+    }
+    if op < 23 {
+        return true;
+    }
+    let third = x.source3;
+    let sources = plan::size_of_word(number);
+    (sources == 3) | ((sources == 2) & (third.0 == 0))
 }
 
 // Rules 5 to 8, and the shape of the result.
@@ -229,7 +248,7 @@ fn shape_node(x: Node, mask: usize, params: usize, a: Record, b: Record, c: Reco
     if !type_named(x, mask) {
         return Shaped::Misfits(5);
     }
-    if !types_agree(op, a.dtype, b.dtype, c.dtype) {
+    if !types_agree(x, a.dtype, b.dtype, c.dtype) {
         return Shaped::Misfits(6);
     }
     if !rows_right(x, params, shapes::rank(s)) {
@@ -335,7 +354,7 @@ pub fn early(table: &[i64], i: usize, x: Node, mask: usize) -> usize
     ensures { λ r. ⌜ Early (now (table .entry)) i r ⌝ }
 {
     let op = x.op;
-    if 21 <= op {
+    if !plan::is_operation(op) {
         return 2;
     }
     let start = 17 * i;

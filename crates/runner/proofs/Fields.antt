@@ -13,8 +13,8 @@ use Rattle.laws.specs.Numbering.{count}
 use Rattle.laws.proofs.Lists.{length-snoc}
 use Rattle.plan.specs.declared.NodeNumber.{NodeNumber}
 use Rattle.plan.specs.declared.ElementNumber.{ElementNumber}
-use Rattle.plan.specs.Operations.{uses}
-use Rattle.plan.specs.Words.{nodeAt}
+use Rattle.plan.specs.declared.Node.{Node}
+use Rattle.plan.specs.Words.{nodeAt, reads}
 use Rattle.rules.specs.Rules.{Derived, noSource}
 use Rattle.verifier.specs.Check.{countOf}
 use Rattle.cells.specs.Cells.{Cell, Field, cellAt}
@@ -67,7 +67,7 @@ module _ (t : List ℤ) (ds : List Derived) (input : List Cell) where
         ap (λ (f : Field). cellAt f e) (field-at n i h)
         ∙ node-cell (nodeAt t i) (getD ds i noSource .extents) (operandsOf t ds input i (fieldsTo t ds input i)) e q
 
-  -- a source that is used is its node's field
-  pub source-field : (n i op k : ℕ) (s : NodeNumber) → i ≤ n → uses op k ≡ true → s .0 < i → fieldOf (fieldsTo t ds input i) op k s ≡ getD (fieldsTo t ds input n) (s .0) noField
+  -- a source that is read is its node's field
+  pub source-field : (n i : ℕ) (x : Node) (k : ℕ) (s : NodeNumber) → i ≤ n → reads x k ≡ true → s .0 < i → fieldOf (fieldsTo t ds input i) x k s ≡ getD (fieldsTo t ds input n) (s .0) noField
   unfolding fieldOf
-  source-field n i op k s h u q = rw u (field-stays i n (s .0) q (omega arith))
+  source-field n i x k s h u q = rw u (field-stays i n (s .0) q (omega arith))

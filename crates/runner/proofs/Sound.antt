@@ -16,10 +16,11 @@ use Rattle.laws.proofs.Induction.{each-below}
 use Rattle.plan.specs.declared.Interval.{Interval}
 use Rattle.plan.specs.declared.NodeNumber.{NodeNumber}
 use Rattle.plan.specs.declared.ElementNumber.{ElementNumber}
-use Rattle.plan.specs.Operations.{PARAM, IDIV, MOD, uses}
+use Rattle.plan.specs.Operations.{PARAM, IDIV, MOD}
 use Rattle.plan.specs.Types.{holds, contains, rangeOf}
-use Rattle.plan.specs.Words.{nodeAt}
-use Rattle.plan.proofs.ByOperation.{divides-uses}
+use Rattle.plan.specs.declared.Node.{Node}
+use Rattle.plan.specs.Words.{nodeAt, reads}
+use Rattle.plan.proofs.ByOperation.{divides-reads}
 use Rattle.bounds.specs.Rules.{resultBounds}
 use Rattle.bounds.proofs.Sound.{In, holding, wider}
 use Rattle.rules.specs.Rules.{Derived, noSource, sourceOf, divisorRight}
@@ -56,9 +57,9 @@ module _ (t : List ℤ) (n : ℕ) (ds : List Derived) (m : NodesMeet t n ds) (in
   field i = getD (fieldsTo t ds input n) i noField
 
   module _ (i : ℕ) (h : i < n) (before : (j : ℕ) → j < i → Sound (getD ds j noSource .bounds) (getD (fieldsTo t ds input n) j noField)) where
-    matches : (op k : ℕ) (s : NodeNumber) → Matches (sourceOf (take i ds) op k s) (fieldOf (fieldsTo t ds input i) op k s)
+    matches : (x : Node) (k : ℕ) (s : NodeNumber) → Matches (sourceOf (take i ds) x k s) (fieldOf (fieldsTo t ds input i) x k s)
     unfolding sourceOf fieldOf
-    matches op k s = bool-cases (uses op k) (λ u. rw u here) (λ u. rw u unused)
+    matches x k s = bool-cases (reads x k) (λ u. rw u here) (λ u. rw u unused)
       where
         there : s .0 < i → Matches (getD (take i ds) (s .0) noSource) (getD (fieldsTo t ds input i) (s .0) noField)
         there l =
@@ -74,22 +75,27 @@ module _ (t : List ℤ) (n : ℕ) (ds : List Derived) (m : NodesMeet t n ds) (in
         here : Matches (getD (take i ds) (s .0) noSource) (getD (fieldsTo t ds input i) (s .0) noField)
         here = bool-cases (ltb (s .0) i) (λ l. there (ltb-true _ _ l)) (λ l. past (ltb-false _ _ l))
 
+    no-cells : (x : Node) (k : ℕ) (s : NodeNumber) → reads x k ≡ false → (e : ElementNumber) → cellAt (fieldOf (fieldsTo t ds input i) x k s) e ≡ gap
+    unfolding fieldOf
+    no-cells x k s u e = rw u refl
+
     supplied : Supplied (nodeAt t i) (getD ds i noSource .extents) (operandsOf t ds input i (fieldsTo t ds input i)) (first (nodeAt t i) (take i ds) .bounds) (second (nodeAt t i) (take i ds) .bounds)
         (third (nodeAt t i) (take i ds) .bounds)
     unfolding operandsOf
     supplied =
         record {
           input = λ q e l. rw getD-drop (fed i e h q l);
-          first = matches (nodeAt t i .op) 1 (nodeAt t i .source1) .sound;
-          second = matches (nodeAt t i .op) 2 (nodeAt t i .source2) .sound;
-          third = matches (nodeAt t i .op) 3 (nodeAt t i .source3) .sound;
+          first = matches (nodeAt t i) 1 (nodeAt t i .source1) .sound;
+          second = matches (nodeAt t i) 2 (nodeAt t i .source2) .sound;
+          third = matches (nodeAt t i) 3 (nodeAt t i .source3) .sound;
+          unread = λ u e. no-cells (nodeAt t i) 3 (nodeAt t i .source3) u e;
         }
 
     one-sound : Sound (getD ds i noSource .bounds) (getD (fieldsTo t ds input n) i noField)
     unfolding nodeField operandsOf
     one-sound e =
         let rules = m .each i h in
-        let same = matches (nodeAt t i .op) 1 (nodeAt t i .source1) .extents in
+        let same = matches (nodeAt t i) 1 (nodeAt t i .source1) .extents in
         rw (field-at t ds input n i h, bounds-derived t i (take i ds) (getD ds i noSource) rules, ← same)
         (node-sound (nodeAt t i) (getD ds i noSource .extents) (operandsOf t ds input i (fieldsTo t ds input i)) _ _ _
         (op-known t i (take i ds) (getD ds i noSource) rules) (divisor-rule (nodeAt t i .op) _ (divisor-right t i (take i ds) (getD ds i noSource) rules)) supplied e)
@@ -111,9 +117,9 @@ module _ (t : List ℤ) (n : ℕ) (ds : List Derived) (m : NodesMeet t n ds) (in
       → cellAt (getD (fieldsTo t ds input n) (nodeAt t i .source2 .0) noField) e ≡ known (pos 0) → ⊥
   no-zero-divisor i h q e k =
       let rules = m .each i h in
-      let u : uses (nodeAt t i .op) 2 ≡ true = divides-uses (nodeAt t i .op) q in
+      let u : reads (nodeAt t i) 2 ≡ true = divides-reads (nodeAt t i) q in
       let s : nodeAt t i .source2 .0 < i = source2-before t i (take i ds) (getD ds i noSource) rules u in
-      let b : second (nodeAt t i) (take i ds) ≡ getD ds (nodeAt t i .source2 .0) noSource = source-is ds i (nodeAt t i .op) 2 (nodeAt t i .source2) u s in
+      let b : second (nodeAt t i) (take i ds) ≡ getD ds (nodeAt t i .source2 .0) noSource = source-is ds i (nodeAt t i) 2 (nodeAt t i .source2) u s in
       let z : not (holds (getD ds (nodeAt t i .source2 .0) noSource .bounds) (pos 0)) ≡ true = rw b at (divisor-rule (nodeAt t i .op) (second (nodeAt t i) (take i ds) .bounds) (divisor-right t i (take i ds) (getD ds i noSource) rules) q) in
       let inside : In (pos 0) (getD ds (nodeAt t i .source2 .0) noSource .bounds) = in-bounds (nodeAt t i .source2 .0) (omega arith) e (pos 0) k in
       false≢true (rw (holding _ (pos 0) inside) at z)

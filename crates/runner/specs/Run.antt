@@ -10,8 +10,7 @@ use Rattle.plan.specs.declared.Answer.{Answer}
 use Rattle.plan.specs.declared.Interval.{Interval}
 use Rattle.plan.specs.declared.Node.{Node}
 use Rattle.plan.specs.declared.NodeNumber.{NodeNumber}
-use Rattle.plan.specs.Operations.{uses}
-use Rattle.plan.specs.Words.{nodeAt}
+use Rattle.plan.specs.Words.{nodeAt, reads}
 use Rattle.plan.specs.Answers.{Outcome, accepted, refused, refuse, need, andThen, answerOf, bufferAfter}
 use Rattle.rules.specs.Rules.{Derived, noSource}
 use Rattle.verifier.specs.Check.{verdict, totalOf}
@@ -21,13 +20,13 @@ use Rattle.runner.specs.Inputs.{inputStart, inputLimits, inputCells, tes
 
 -- ---- the cells of every node
 
--- what stands for a source that the operation does not use
+-- what stands for a source that is not read
 abbrev pub noField : Field
 noField = record { extents = []; cells = [] }
 
--- source k (1 to 3) among the earlier nodes' fields, where the operation uses it
-unfoldable pub fieldOf : List Field → ℕ → ℕ → NodeNumber → Field
-fieldOf earlier op k n = cond (uses op k) (getD earlier (n .0) noField) noField
+-- source k (1 to 3) of node x among the earlier nodes' fields, where it is read
+unfoldable pub fieldOf : List Field → Node → ℕ → NodeNumber → Field
+fieldOf earlier x k n = cond (reads x k) (getD earlier (n .0) noField) noField
 
 -- what node n is evaluated from, after the earlier nodes
 unfoldable pub operandsOf : List ℤ → List Derived → List Cell → ℕ → List Field → Operands
@@ -35,9 +34,9 @@ operandsOf t ds input n earlier =
     let x = nodeAt t n in
     record {
       input = drop (inputStart t ds n) input;
-      a = fieldOf earlier (x .op) 1 (x .source1);
-      b = fieldOf earlier (x .op) 2 (x .source2);
-      c = fieldOf earlier (x .op) 3 (x .source3);
+      a = fieldOf earlier x 1 (x .source1);
+      b = fieldOf earlier x 2 (x .source2);
+      c = fieldOf earlier x 3 (x .source3);
     }
 
 -- node n after the earlier ones: demand 2's "every element of every node"

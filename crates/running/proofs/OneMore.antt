@@ -14,8 +14,8 @@ use Rattle.laws.proofs.Lists.{getD-tab}
 use Rattle.laws.proofs.Machine.{Small}
 use Rattle.laws.proofs.Store.{store-hit}
 use Rattle.plan.specs.declared.NodeNumber.{NodeNumber}
-use Rattle.plan.specs.Operations.{PARAM, uses}
-use Rattle.plan.specs.Words.{nodeAt, ifParam}
+use Rattle.plan.specs.Operations.{PARAM}
+use Rattle.plan.specs.Words.{nodeAt, ifParam, reads as readsSource}
 use Rattle.rules.specs.declared.Record.{Record}
 use Rattle.rules.specs.Rules.{Derived, noSource}
 use Rattle.verifier.specs.Check.{countOf, totalOf}
@@ -85,8 +85,8 @@ module _ (t : List ℤ) (records : List Record) (n : ℕ) (checked : Checked t r
         }
 
     -- its sources stand in the buffers, and its input is that of a PARAM
-    source-stands : (k : ℕ) (s : NodeNumber) → (uses (nodeAt t i .op) k ≡ true → s .0 < i) → uses (nodeAt t i .op) k ≡ true
-        → Source vs fs (nodeStart (nodesOf records n) (s .0)) (nodeExtents (nodesOf records n) (s .0)) (fieldOf (fieldsTo t (nodesOf records n) (inputCells values flags) i) (nodeAt t i .op) k s)
+    source-stands : (k : ℕ) (s : NodeNumber) → (readsSource (nodeAt t i) k ≡ true → s .0 < i) → readsSource (nodeAt t i) k ≡ true
+        → Source vs fs (nodeStart (nodesOf records n) (s .0)) (nodeExtents (nodesOf records n) (s .0)) (fieldOf (fieldsTo t (nodesOf records n) (inputCells values flags) i) (nodeAt t i) k s)
     unfolding fieldOf nodeField
     source-stands k s earlier u =
         let few : i ≤ length nodes = omega (arith, as-many t records n checked) in

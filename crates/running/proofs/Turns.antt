@@ -1,5 +1,5 @@
 -- Node i as `run_node` runs it: its sources as the code picks them, what it asks for, and what it leaves.
-use Prim.Native.Nat.{ℕ, _+_, _^_, _/_, _%_, _<_, _≤_}
+use Prim.Native.Nat.{ℕ, _+_, _<_, _≤_}
 use mathlib.Core.Path.{_≡_, refl, sym, ap, _∙_}
 use mathlib.Core.Bool.{true, cond}
 use mathlib.Core.List.{List, []}
@@ -13,17 +13,15 @@ use Rattle.laws.proofs.Booleans.{bool-cases}
 use Rattle.laws.proofs.Lists.{getD-map}
 use Rattle.plan.specs.declared.Node.{Node}
 use Rattle.plan.specs.declared.NodeNumber.{NodeNumber}
-use Rattle.plan.specs.Operations.{uses, masks}
-use Rattle.plan.specs.Words.{nodeAt, ifParam}
+use Rattle.plan.specs.Words.{nodeAt, ifParam, reads}
 use Rattle.shapes.specs.Shown.{shown}
 use Rattle.shapes.proofs.Extents.{some-element}
 use Rattle.rules.specs.declared.Record.{Record}
 use Rattle.rules.specs.Rules.{Derived, noSource, sourceOf}
-use Rattle.rules.specs.Code.{Masked, viewOf}
-use Rattle.rules.proofs.EarlyRules.{bit-uses}
+use Rattle.rules.specs.Code.{viewOf}
 use Rattle.verifier.specs.Check.{countOf, totalOf}
 use Rattle.verifier.specs.Meets.{NodeMeets}
-use Rattle.verifier.proofs.Nodes.{op-known, source1-before, source2-before, source3-before, source-is}
+use Rattle.verifier.proofs.Nodes.{source1-before, source2-before, source3-before, source-is}
 use Rattle.cells.specs.Cells.{Field}
 use Rattle.cells.specs.Nodes.{Operands}
 use Rattle.inputs.specs.Nodes.{nodesOf}
@@ -39,10 +37,10 @@ use Rattle.running.proofs.Plans.{as-many, nodes-meet}
 -- ---- a source as the code picks it
 
 -- its extents, and where its cells begin
-pub record Picks (ds : List Derived) (i op k : ℕ) (s : NodeNumber) (extents : List ℕ) (base : ℕ) : Type 0 where
-  pub shape : extents ≡ sourceOf (take i ds) op k s .extents
-  pub before : uses op k ≡ true → s .0 < i
-  pub begins : uses op k ≡ true → base ≡ totalOf (take (s .0) ds)
+pub record Picks (ds : List Derived) (i : ℕ) (x : Node) (k : ℕ) (s : NodeNumber) (extents : List ℕ) (base : ℕ) : Type 0 where
+  pub shape : extents ≡ sourceOf (take i ds) x k s .extents
+  pub before : reads x k ≡ true → s .0 < i
+  pub begins : reads x k ≡ true → base ≡ totalOf (take (s .0) ds)
 
 module _ (records : List Record) (n i : ℕ) (long : length records ≡ 256) (few : n ≤ 256) (l : i < n) where
   -- a record that is there, as it was derived
@@ -56,21 +54,20 @@ module _ (records : List Record) (n i : ℕ) (long : length records ≡ 256) (fe
   own-extents d = sym (ap (λ (d : Derived). d .extents) (view-at d i l))
 
   picks : (starts : List ℕ) → ((j : ℕ) → j < n → getD starts j 0 ≡ totalOf (take j (nodesOf records n)))
-      → (d : Record) (op mask k : ℕ) (s : NodeNumber) (place : ℕ) {extents : List ℕ} {base : ℕ} → Masked op mask → k < 17 → (uses op k ≡ true → s .0 < i) → (s .0 < i → place ≡ s .0)
-      → extents ≡ cond (eqb (mask / 2 ^ k % 2) 1) (shown (getD records place d .extents)) [] → base ≡ cond (eqb (mask / 2 ^ k % 2) 1) (getD starts place 0) 0
-      → Picks (nodesOf records n) i op k s extents base
+      → (d : Record) (x : Node) (k : ℕ) (s : NodeNumber) (place : ℕ) {extents : List ℕ} {base : ℕ} → (reads x k ≡ true → s .0 < i) → (s .0 < i → place ≡ s .0)
+      → extents ≡ cond (reads x k) (shown (getD records place d .extents)) [] → base ≡ cond (reads x k) (getD starts place 0) 0
+      → Picks (nodesOf records n) i x k s extents base
   unfolding sourceOf
-  picks starts begin d op mask k s place {extents} {base} m h before at e b =
+  picks starts begin d x k s place {extents} {base} before at e b =
       record { shape = shape; before = before; begins = begins }
     where
-      shape : extents ≡ sourceOf (take i (nodesOf records n)) op k s .extents
+      shape : extents ≡ sourceOf (take i (nodesOf records n)) x k s .extents
       shape =
           e
-          ∙ rw (bit-uses k m h)
-          (bool-cases (uses op k) (λ u. rw (u, getD-take i (nodesOf records n) (s .0) noSource (before u), at (before u), view-at d (s .0) (omega (arith, before u))) refl) (λ u. rw u refl))
+          ∙ bool-cases (reads x k) (λ u. rw (u, getD-take i (nodesOf records n) (s .0) noSource (before u), at (before u), view-at d (s .0) (omega (arith, before u))) refl) (λ u. rw u refl)
 
-      begins : uses op k ≡ true → base ≡ totalOf (take (s .0) (nodesOf records n))
-      begins u = b ∙ rw (bit-uses k m h, u, at (before u)) (begin (s .0) (omega (arith, before u)))
+      begins : reads x k ≡ true → base ≡ totalOf (take (s .0) (nodesOf records n))
+      begins u = b ∙ rw (u, at (before u)) (begin (s .0) (omega (arith, before u)))
 
 -- ---- node i of a plan
 
@@ -84,10 +81,7 @@ module _ (t : List ℤ) (records : List Record) (n : ℕ) (checked : Checked t r
   rules : NodeMeets t i (take i (nodesOf records n)) (getD (nodesOf records n) i noSource)
   rules = nodes-meet t records n checked .each i l
 
-  masked : (x : Node) (mask : ℕ) → x ≡ nodeAt t i → mask ≡ getD masks (x .op) 0 → Masked (nodeAt t i .op) mask
-  masked x mask q e = record { known = op-known t i (take i nodes) (getD nodes i noSource) rules; is-mask = rw q at e }
-
-  pub sources-earlier : (uses (nodeAt t i .op) 1 ≡ true → nodeAt t i .source1 .0 < i) × (uses (nodeAt t i .op) 2 ≡ true → nodeAt t i .source2 .0 < i) × (uses (nodeAt t i .op) 3 ≡ true → nodeAt t i .source3 .0 < i)
+  pub sources-earlier : (reads (nodeAt t i) 1 ≡ true → nodeAt t i .source1 .0 < i) × (reads (nodeAt t i) 2 ≡ true → nodeAt t i .source2 .0 < i) × (reads (nodeAt t i) 3 ≡ true → nodeAt t i .source3 .0 < i)
   sources-earlier =
       (source1-before t i (take i nodes) _ rules, source2-before t i (take i nodes) _ rules, source3-before t i (take i nodes) _ rules)
 
@@ -96,20 +90,20 @@ module _ (t : List ℤ) (records : List Record) (n : ℕ) (checked : Checked t r
   own-room = total-whole nodes i (omega (arith, as-many t records n checked))
 
   -- a source that it uses: its extents, and its cells end before its own begin
-  picked-extents : (k : ℕ) (s : NodeNumber) (extents : List ℕ) (base : ℕ) → Picks (nodesOf records n) i (nodeAt t i .op) k s extents base → uses (nodeAt t i .op) k ≡ true
+  picked-extents : (k : ℕ) (s : NodeNumber) (extents : List ℕ) (base : ℕ) → Picks (nodesOf records n) i (nodeAt t i) k s extents base → reads (nodeAt t i) k ≡ true
       → extents ≡ getD (nodesOf records n) (s .0) noSource .extents
-  picked-extents k s extents base p u = p .shape ∙ ap (λ (d : Derived). d .extents) (source-is nodes i op k s u (p .before u))
+  picked-extents k s extents base p u = p .shape ∙ ap (λ (d : Derived). d .extents) (source-is nodes i (nodeAt t i) k s u (p .before u))
 
-  ends : (k : ℕ) (s : NodeNumber) (extents : List ℕ) (base : ℕ) → Picks (nodesOf records n) i (nodeAt t i .op) k s extents base → uses (nodeAt t i .op) k ≡ true
+  ends : (k : ℕ) (s : NodeNumber) (extents : List ℕ) (base : ℕ) → Picks (nodesOf records n) i (nodeAt t i) k s extents base → reads (nodeAt t i) k ≡ true
       → base + count extents ≤ totalOf (take i (nodesOf records n))
   ends k s extents base p u =
       rw (p .begins u, picked-extents k s extents base p u) (total-more nodes (s .0) i (p .before u) (omega (arith, as-many t records n checked)))
 
-  picked-small : (vs : List ℤ) (k : ℕ) (s : NodeNumber) (extents : List ℕ) (base : ℕ) → Picks (nodesOf records n) i (nodeAt t i .op) k s extents base → uses (nodeAt t i .op) k ≡ true
+  picked-small : (vs : List ℤ) (k : ℕ) (s : NodeNumber) (extents : List ℕ) (base : ℕ) → Picks (nodesOf records n) i (nodeAt t i) k s extents base → reads (nodeAt t i) k ≡ true
       → SmallNode vs (nodesOf records n) (s .0) → SmallIn vs base (base + count extents)
   picked-small vs k s extents base p u small = rw (p .begins u, picked-extents k s extents base p u) small
 
-  picked-source : (vs : List ℤ) (fs : List ℕ) (k : ℕ) (s : NodeNumber) (extents : List ℕ) (base : ℕ) {f : Field} → Picks (nodesOf records n) i (nodeAt t i .op) k s extents base → uses (nodeAt t i .op) k ≡ true
+  picked-source : (vs : List ℤ) (fs : List ℕ) (k : ℕ) (s : NodeNumber) (extents : List ℕ) (base : ℕ) {f : Field} → Picks (nodesOf records n) i (nodeAt t i) k s extents base → reads (nodeAt t i) k ≡ true
       → Source vs fs (nodeStart (nodesOf records n) (s .0)) (nodeExtents (nodesOf records n) (s .0)) f → Source vs fs base extents f
   picked-source vs fs k s extents base p u source = rw (p .begins u, picked-extents k s extents base p u) source
 
@@ -131,23 +125,22 @@ module _ {t : List ℤ} {records : List Record} {n : ℕ} {starts : List ℕ} {i
   taken-is q d e = e ∙ rw (q, node-size records n (turn .checked .long) (turn .checked .few) d i (turn .inside))
 
   -- its three sources, from its words
-  pub three-picked : {x : Node} → x ≡ nodeAt t i → {mask : ℕ} → mask ≡ getD masks (x .op) 0
+  pub three-picked : {x : Node} → x ≡ nodeAt t i
       → (d₁ d₂ d₃ : Record) {place₁ place₂ place₃ : ℕ} → (x .source1 .0 < i → place₁ ≡ x .source1 .0) → (x .source2 .0 < i → place₂ ≡ x .source2 .0) → (x .source3 .0 < i → place₃ ≡ x .source3 .0)
       → {sa sb sc : List ℕ} {pa pb pc : ℕ}
-      → (sa ≡ cond (eqb (mask / 2 ^ 1 % 2) 1) (shown (getD records place₁ d₁ .extents)) []) × (pa ≡ cond (eqb (mask / 2 ^ 1 % 2) 1) (getD starts place₁ 0) 0)
-      → (sb ≡ cond (eqb (mask / 2 ^ 2 % 2) 1) (shown (getD records place₂ d₂ .extents)) []) × (pb ≡ cond (eqb (mask / 2 ^ 2 % 2) 1) (getD starts place₂ 0) 0)
-      → (sc ≡ cond (eqb (mask / 2 ^ 3 % 2) 1) (shown (getD records place₃ d₃ .extents)) []) × (pc ≡ cond (eqb (mask / 2 ^ 3 % 2) 1) (getD starts place₃ 0) 0)
-      → Picks (nodesOf records n) i (nodeAt t i .op) 1 (nodeAt t i .source1) sa pa × Picks (nodesOf records n) i (nodeAt t i .op) 2 (nodeAt t i .source2) sb pb
-      × Picks (nodesOf records n) i (nodeAt t i .op) 3 (nodeAt t i .source3) sc pc
-  three-picked {x} q {mask} em d₁ d₂ d₃ {place₁} {place₂} {place₃} at₁ at₂ at₃ a b c =
+      → (sa ≡ cond (reads x 1) (shown (getD records place₁ d₁ .extents)) []) × (pa ≡ cond (reads x 1) (getD starts place₁ 0) 0)
+      → (sb ≡ cond (reads x 2) (shown (getD records place₂ d₂ .extents)) []) × (pb ≡ cond (reads x 2) (getD starts place₂ 0) 0)
+      → (sc ≡ cond (reads x 3) (shown (getD records place₃ d₃ .extents)) []) × (pc ≡ cond (reads x 3) (getD starts place₃ 0) 0)
+      → Picks (nodesOf records n) i (nodeAt t i) 1 (nodeAt t i .source1) sa pa × Picks (nodesOf records n) i (nodeAt t i) 2 (nodeAt t i .source2) sb pb
+      × Picks (nodesOf records n) i (nodeAt t i) 3 (nodeAt t i .source3) sc pc
+  three-picked {x} q d₁ d₂ d₃ {place₁} {place₂} {place₃} at₁ at₂ at₃ a b c =
       let checked = turn .checked in
       let l = turn .inside in
-      let m = masked t records n checked i l x mask q em in
       let earlier = sources-earlier t records n checked i l in
       let begin : (j : ℕ) → j < n → getD starts j 0 ≡ totalOf (take j ds) = λ j h. turn .places .begin j (omega (arith, as-many t records n checked)) in (
-        picks records n i (checked .long) (checked .few) l starts begin d₁ (nodeAt t i .op) mask 1 (nodeAt t i .source1) place₁ m (omega arith) (earlier .0) (rw q at at₁) (a .0) (a .1),
-        picks records n i (checked .long) (checked .few) l starts begin d₂ (nodeAt t i .op) mask 2 (nodeAt t i .source2) place₂ m (omega arith) (earlier .1) (rw q at at₂) (b .0) (b .1),
-        picks records n i (checked .long) (checked .few) l starts begin d₃ (nodeAt t i .op) mask 3 (nodeAt t i .source3) place₃ m (omega arith) (earlier .2) (rw q at at₃) (c .0) (c .1),
+        picks records n i (checked .long) (checked .few) l starts begin d₁ (nodeAt t i) 1 (nodeAt t i .source1) place₁ (earlier .0) (rw q at at₁) (rw q at (a .0)) (rw q at (a .1)),
+        picks records n i (checked .long) (checked .few) l starts begin d₂ (nodeAt t i) 2 (nodeAt t i .source2) place₂ (earlier .1) (rw q at at₂) (rw q at (b .0)) (rw q at (b .1)),
+        picks records n i (checked .long) (checked .few) l starts begin d₃ (nodeAt t i) 3 (nodeAt t i .source3) place₃ (earlier .2) (rw q at at₃) (rw q at (c .0)) (rw q at (c .1)),
       )
 
   room : Room (nodeExtents (nodesOf records n) i) (nodeStart (nodesOf records n) i) vs fs
@@ -160,7 +153,7 @@ module _ {t : List ℤ} {records : List Record} {n : ℕ} {starts : List ℕ} {i
       }
 
   module _ {pa pb pc : ℕ} {sa sb sc : List ℕ}
-      (picked : Picks (nodesOf records n) i (nodeAt t i .op) 1 (nodeAt t i .source1) sa pa × Picks (nodesOf records n) i (nodeAt t i .op) 2 (nodeAt t i .source2) sb pb × Picks (nodesOf records n) i (nodeAt t i .op) 3 (nodeAt t i .source3) sc pc)
+      (picked : Picks (nodesOf records n) i (nodeAt t i) 1 (nodeAt t i .source1) sa pa × Picks (nodesOf records n) i (nodeAt t i) 2 (nodeAt t i .source2) sb pb × Picks (nodesOf records n) i (nodeAt t i) 3 (nodeAt t i .source3) sc pc)
       {x : Node} {r : List ℕ} {start : ℕ} (q : x ≡ nodeAt t i) (er : r ≡ nodeExtents (nodesOf records n) i) (es : start ≡ nodeStart (nodesOf records n) i) where
     right : Right (nodeAt t i) sa sb sc (nodeExtents (nodesOf records n) i)
     right =

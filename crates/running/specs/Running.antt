@@ -7,8 +7,8 @@ use lib.IntN.{ℤ}
 use lib.ListN.{length, getD, take}
 use Rattle.laws.specs.Store.{store}
 use Rattle.plan.specs.Answers.{accepted}
-use Rattle.plan.specs.Operations.{PARAM, uses}
-use Rattle.plan.specs.Words.{nodeAt}
+use Rattle.plan.specs.Operations.{PARAM}
+use Rattle.plan.specs.Words.{nodeAt, reads}
 use Rattle.rules.specs.declared.Record.{Record}
 use Rattle.rules.specs.Rules.{Derived, noSource}
 use Rattle.verifier.specs.Check.{countOf, totalOf, verdict}
@@ -58,8 +58,8 @@ pub record Turning (t : List ℤ) (records : List Record) (n : ℕ) (starts : Li
   pub checked : Checked t records n
   pub inside : i < n
   pub places : Places (nodesOf records n) starts vs fs
-  pub small-first : uses (nodeAt t i .op) 1 ≡ true → SmallNode vs (nodesOf records n) (nodeAt t i .source1 .0)
-  pub small-second : uses (nodeAt t i .op) 2 ≡ true → SmallNode vs (nodesOf records n) (nodeAt t i .source2 .0)
+  pub small-first : reads (nodeAt t i) 1 ≡ true → SmallNode vs (nodesOf records n) (nodeAt t i .source1 .0)
+  pub small-second : reads (nodeAt t i) 2 ≡ true → SmallNode vs (nodesOf records n) (nodeAt t i .source2 .0)
   pub values : nodeAt t i .op ≡ PARAM → from + countOf (getD (nodesOf records n) i noSource) ≤ length given
   pub flags : nodeAt t i .op ≡ PARAM → from + countOf (getD (nodesOf records n) i noSource) ≤ length known
 

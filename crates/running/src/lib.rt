@@ -2,10 +2,10 @@
 ghost use mathlib.Core.Path.{_≡_};
 ghost use mathlib.Core.Bool.{cond};
 ghost use mathlib.Core.List.{[]};
-ghost use Prim.Native.Nat.{_+_, _^_, _/_, _%_, _-_, _≤_, _<_};
-ghost use lib.Dec.{eqb};
+ghost use Prim.Native.Nat.{_+_, _/_, _-_, _≤_, _<_};
 ghost use lib.ListN.{length, getD};
-ghost use Rattle.plan.specs.Words.{nodeAt, ifParam};
+ghost use Rattle.plan.specs.Operations.{masks};
+ghost use Rattle.plan.specs.Words.{nodeAt, ifParam, reads};
 ghost use Rattle.shapes.specs.Shown.{shown};
 ghost use Rattle.rules.specs.Rules.{noSource};
 ghost use Rattle.verifier.specs.Check.{countOf, totalOf};
@@ -17,14 +17,15 @@ ghost use Rattle.inputs.specs.Scanning.{gapsFrom};
 ghost use Rattle.evaluation.specs.Standing.{Evaluates};
 ghost use Rattle.running.specs.Running.{nodeExtents, nodeStart, laidTo, Checked, Fed, Places, Turning, NodeReads};
 use evaluation::Operand;
+use plan::Node;
 use rules::Record;
 
-// Source k, of record r, whose cells begin at `start`; no extents where the operation does not use it.
-fn operand(mask: usize, k: usize, r: Record, start: usize) -> Operand
-    requires { ⌜ k < 17 ⌝ }
-    ensures { λ o. ⌜ (shown (o .shape) ≡ cond (eqb (mask / 2 ^ k % 2) 1) (shown (r .extents)) []) × (o .base ≡ cond (eqb (mask / 2 ^ k % 2) 1) start 0) ⌝ }
+// Source k, of record r, whose cells begin at `start`; no extents where the node does not read it.
+fn operand(x: Node, mask: usize, k: usize, r: Record, start: usize) -> Operand
+    requires { ⌜ (mask ≡ getD masks (x .op) 0) × (k < 17) ⌝ }
+    ensures { λ o. ⌜ (shown (o .shape) ≡ cond (reads x k) (shown (r .extents)) []) × (o .base ≡ cond (reads x k) start 0) ⌝ }
 {
-    if plan::uses_word(mask, k) {
+    if plan::reads(x, mask, k) {
         let e = r.extents;
         return Operand {
             shape: e,
@@ -57,9 +58,9 @@ pub fn run_node(
     let place1 = verifier::source_place(x.source1, i);
     let place2 = verifier::source_place(x.source2, i);
     let place3 = verifier::source_place(x.source3, i);
-    let a = operand(mask, 1, records[place1], starts[place1]);
-    let b = operand(mask, 2, records[place2], starts[place2]);
-    let d = operand(mask, 3, records[place3], starts[place3]);
+    let a = operand(x, mask, 1, records[place1], starts[place1]);
+    let b = operand(x, mask, 2, records[place2], starts[place2]);
+    let d = operand(x, mask, 3, records[place3], starts[place3]);
     let r = records[i];
     let e = r.extents;
     evaluation::eval_node(x, e, a, b, d, given, known, from, values, flags, starts[i]);

@@ -17,7 +17,7 @@ use Rattle.laws.proofs.Lists.{getD-tab}
 use Rattle.laws.proofs.Numbering.{Stands, ravel-stands, ravel-same, coord-lt}
 use Rattle.plan.specs.declared.ElementNumber.{ElementNumber}
 use Rattle.plan.specs.declared.Node.{Node}
-use Rattle.plan.specs.Operations.{WHERE, binaries, byOperation}
+use Rattle.plan.specs.Operations.{WHERE, FILL, binaries, byOperation}
 use Rattle.plan.proofs.ByOperation.{_then_, for-group}
 use Rattle.plan.specs.Words.{element}
 use Rattle.shapes.specs.Rules.{extent, equalOrOne, aligned, canBroadcast, broadcast, shapeRules, shapesAgree, resultRules, resultExtents}
@@ -127,6 +127,12 @@ module _ (x : Node) (s t u : List ℕ) where
     binary-spreads b =
         let a : canBroadcast s t ≡ true = sym (binary-agree b) ∙ agree in
         rw (binary-extents b) (spreads-left s t p q a, spreads-right s t p q a)
+
+    pub fill-spreads : x .op ≡ FILL → Spreads s (resultExtents x s t u) × Spreads t (resultExtents x s t u)
+    unfolding shapesAgree resultExtents among
+    fill-spreads w =
+        let a : canBroadcast s t ≡ true = rw w at agree in
+        rw w (spreads-left s t p q a, spreads-right s t p q a)
 
     pub where-spreads : Positive u → x .op ≡ WHERE → Spreads s (resultExtents x s t u) × Spreads t (resultExtents x s t u) × Spreads u (resultExtents x s t u)
     unfolding shapesAgree resultExtents among

@@ -15,8 +15,9 @@ use Rattle.laws.proofs.Lists.{length-tab}
 use Rattle.laws.proofs.Numbering.{count-pos}
 use Rattle.plan.specs.declared.Node.{Node}
 use Rattle.plan.specs.declared.Row.{Row}
-use Rattle.plan.specs.Words.{listOf}
-use Rattle.plan.proofs.ByOperation.{_then_, by-rows}
+use Rattle.plan.specs.Operations.{STACK}
+use Rattle.plan.specs.Words.{listOf, sizeOf}
+use Rattle.plan.proofs.ByOperation.{_then_, by-rows, only}
 use Rattle.shapes.specs.Rows.{extentsOf}
 use Rattle.shapes.specs.Rules.{extent, flagged, aligned, broadcast, permuted, reduced, gatheredExtents, resultRules, resultExtents}
 
@@ -115,7 +116,7 @@ pub record Extents (s : List ℕ) : Type 0 where
 pub no-extents : Extents []
 no-extents = record { positive = positive-none; ranked = omega arith }
 
-module _ (x : Node) (s t u : List ℕ) (p : Extents s) (q : Extents t) (r : Extents u) where
+module _ (x : Node) (s t u : List ℕ) (p : Extents s) (q : Extents t) (r : Extents u) (stack : x .op ≡ STACK → (0 < sizeOf (x .number)) × (length s ≤ 3)) where
   row-extents : (row : Row) → Extents (extentsOf (listOf row))
   row-extents row = record { positive = extents-positive (listOf row); ranked = extents-length (listOf row) }
 
@@ -129,6 +130,9 @@ module _ (x : Node) (s t u : List ℕ) (p : Extents s) (q : Extents t) (r : Exte
         ranked = rw broadcast-length (omega (arith, two-extents .ranked, r .ranked));
       }
 
+  stack-extents : (0 < sizeOf (x .number)) × (length s ≤ 3) → Extents (sizeOf (x .number) ∷ s)
+  stack-extents h = record { positive = positive-cons (sizeOf (x .number)) s (h .0) (p .positive); ranked = omega (arith, h .1) }
+
   pub result-extents : Extents (resultExtents x s t u)
   unfolding resultExtents
   result-extents =
@@ -140,6 +144,7 @@ module _ (x : Node) (s t u : List ℕ) (p : Extents s) (q : Extents t) (r : Exte
       then (λ e. two-extents)
       then (λ e. three-extents)
       then (λ e. record { positive = reduced-positive s (listOf (x .rowa)) (p .positive); ranked = rw reduced-length (p .ranked) })
+      then (λ e. stack-extents (stack (only (x .op) STACK e)))
       then tt)
       no-extents
 

@@ -6,3 +6,4 @@ pub mod Broadcast
 pub mod Sources
 pub mod Coordinates
 pub mod Facts
+pub mod Stacking

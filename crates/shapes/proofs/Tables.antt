@@ -6,17 +6,17 @@ use mathlib.Core.List.{List}
 use Rattle.laws.specs.Lists.{allBelow, among}
 use Rattle.plan.specs.declared.Node.{Node}
 use Rattle.plan.specs.declared.ElementNumber.{ElementNumber}
-use Rattle.plan.specs.Operations.{operationCount, operationsOf, coversAll, followed}
+use Rattle.plan.specs.Operations.{operationCount, isOperation, operationsOf, coversAll, followed}
 use Rattle.shapes.specs.Rules.{shapeRules, resultRules}
 use Rattle.shapes.specs.Sources.{sourceRules}
 
 module _ (x : Node) (s t u : List ℕ) where
   pub shape-rules : coversAll (shapeRules x s t u) ≡ true
-  unfolding allBelow among
+  unfolding allBelow among isOperation
   shape-rules = refl
 
   pub result-rules : coversAll (resultRules x s t u) ≡ true
-  unfolding allBelow among
+  unfolding allBelow among isOperation
   result-rules = refl
 
 -- source elements: exactly the operations that a lookup follows

@@ -1,7 +1,7 @@
 -- Which element of its source an element of a node is, axis by axis. s is the source's extents and r the result's; o is an element of the
 -- source and e one of the result. The maps of Sources.antt are these and no others: `source-from`, `from-source`, `source-none`, `none-source`,
--- `broadcast-from`, `broadcast-once` and `gathers` of proofs/Coordinates.antt.
-use Prim.Native.Nat.{ℕ, _+_, _-_, _<_, _≤_}
+-- `broadcast-from`, `broadcast-once` and `gathers` of proofs/Coordinates.antt, `stacked-from` of proofs/Stacking.antt.
+use Prim.Native.Nat.{ℕ, suc, _+_, _-_, _<_, _≤_}
 use mathlib.Core.Path.{_≡_}
 use mathlib.Core.Logic.{_⊎_}
 use mathlib.Core.List.{List}
@@ -36,6 +36,10 @@ ShrunkFrom s r offsets o e = (k : ℕ) → k < length s → coord s o k ≡ word
 -- "Binary and WHERE: right-aligned; each axis equal or 1": the last axes are each other's. Along an extent of 1 as for EXPAND.
 abbrev pub BroadcastFrom : List ℕ → List ℕ → ℕ → ℕ → Type 0
 BroadcastFrom s r o e = (k : ℕ) → k < length s → (extent s k ≡ 1 → ⊥) → coord s o k ≡ coord r e (length r - length s + k)
+
+-- 02 §3, STACK: "joined on a new leading axis": the first coordinate is the source's turn, from 0, and the others are those of its element o
+abbrev pub StackedFrom : List ℕ → List ℕ → ℕ → ℕ → ℕ → Type 0
+StackedFrom s r turn o e = (coord r e 0 ≡ turn) × ((k : ℕ) → k < length s → coord r e (suc k) ≡ coord s o k)
 
 -- "REDUCE: flagged axes become 1; rank stays.": they agree along the others
 abbrev pub AgreesOff : List ℕ → List ℕ → List ℕ → ℕ → ℕ → Type 0

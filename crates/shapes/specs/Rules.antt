@@ -1,14 +1,14 @@
 -- The shape rule of each operation. s, t and u are the extents of its sources; A is s', B is o.
 use Prim.Native.Nat.{ℕ, zero, suc, _+_, _*_, _-_, max}
-use mathlib.Core.Bool.{Bool, true, false, _&&_, _||_, cond}
+use mathlib.Core.Bool.{Bool, true, false, _&&_, _||_, not, cond}
 use mathlib.Core.List.{List, [], _∷_, _++_, map}
 use lib.Dec.{leb, ltb, eqb}
 use lib.ListN.{length, getD, take, replicate}
 use Rattle.laws.specs.Lists.{tab, allBelow}
 use Rattle.laws.specs.Numbering.{count}
 use Rattle.plan.specs.declared.Node.{Node}
-use Rattle.plan.specs.Operations.{CONST, PARAM, PERMUTE, FLIP, RESHAPE, EXPAND, PAD, SHRINK, CAST, WHERE, REDUCE, LOAD, binaries, Entry, _⇒_, byOperation}
-use Rattle.plan.specs.Words.{listOf}
+use Rattle.plan.specs.Operations.{CONST, PARAM, PERMUTE, FLIP, RESHAPE, EXPAND, PAD, SHRINK, CAST, WHERE, REDUCE, LOAD, FILL, KNOWN, STACK, binaries, Entry, _⇒_, byOperation}
+use Rattle.plan.specs.Words.{listOf, sizeOf, reads}
 use Rattle.shapes.specs.Rows.{extentsOf}
 
 -- "over 1048576 elements"
@@ -29,6 +29,10 @@ flagged flags k = eqb (wordOf flags k) 1
 -- same rank, and p holds of each axis
 unfoldable pub sameRank : List ℕ → List ℕ → (ℕ → Bool) → Bool
 sameRank s r p = eqb (length s) (length r) && allBelow (length s) p
+
+-- the same extents
+unfoldable pub sameShape : List ℕ → List ℕ → Bool
+sameShape s t = sameRank s t (λ (k : ℕ). eqb (extent s k) (extent t k))
 
 -- ---- "Binary and WHERE: right-aligned; each axis equal or 1; the larger wins."
 
@@ -52,18 +56,19 @@ broadcast s t =
 -- ---- rule 8, without its limit
 
 -- "RESHAPE: equal element counts. EXPAND: same rank, s_k is 1 or s'_k. PAD: same rank, offset o_k + s_k ≤ s'_k. SHRINK: same rank,
--- o_k + s'_k ≤ s_k."
+-- o_k + s'_k ≤ s_k." FILL: "broadcast". STACK: "all shapes .. equal, source rank at most 3".
 abbrev pub shapeRules : Node → List ℕ → List ℕ → List ℕ → List (Entry Bool)
 shapeRules x s t u =
     let r = extentsOf (listOf (x .rowa)) in
     let o = listOf (x .rowb) in
-    (CONST ∷ PARAM ∷ PERMUTE ∷ FLIP ∷ CAST ∷ REDUCE ∷ LOAD ∷ []) ⇒ true
+    (CONST ∷ PARAM ∷ PERMUTE ∷ FLIP ∷ CAST ∷ REDUCE ∷ LOAD ∷ KNOWN ∷ []) ⇒ true
     ∷ (RESHAPE ∷ []) ⇒ eqb (count s) (count r)
     ∷ (EXPAND ∷ []) ⇒ sameRank s r (λ (k : ℕ). eqb (extent s k) 1 || eqb (extent s k) (extent r k))
     ∷ (PAD ∷ []) ⇒ sameRank s r (λ (k : ℕ). leb (wordOf o k + extent s k) (extent r k))
     ∷ (SHRINK ∷ []) ⇒ sameRank s r (λ (k : ℕ). leb (wordOf o k + extent r k) (extent s k))
-    ∷ binaries ⇒ canBroadcast s t
+    ∷ (FILL ∷ binaries) ⇒ canBroadcast s t
     ∷ (WHERE ∷ []) ⇒ (canBroadcast s t && canBroadcast (broadcast s t) u)
+    ∷ (STACK ∷ []) ⇒ (sameShape s t && ((not (reads x 3) || sameShape s u) && leb (length s) 3))
     ∷ []
 
 unfoldable pub shapesAgree : Node → List ℕ → List ℕ → List ℕ → Bool
@@ -83,15 +88,17 @@ reduced s flags = tab (length s) (λ (k : ℕ). cond (flagged flags k) 1 (extent
 unfoldable pub gatheredExtents : List ℕ → List ℕ → List ℕ
 gatheredExtents s flags = tab (length s) (λ (k : ℕ). cond (flagged flags k) (extent s k) 1)
 
+-- "number 2 or 3 of sources joined on a new leading axis"
 abbrev pub resultRules : Node → List ℕ → List ℕ → List ℕ → List (Entry (List ℕ))
 resultRules x s t u =
     (CONST ∷ []) ⇒ []
     ∷ (PARAM ∷ RESHAPE ∷ EXPAND ∷ PAD ∷ SHRINK ∷ []) ⇒ extentsOf (listOf (x .rowa))
     ∷ (PERMUTE ∷ []) ⇒ permuted s (listOf (x .rowa))
-    ∷ (FLIP ∷ CAST ∷ LOAD ∷ []) ⇒ s
-    ∷ binaries ⇒ broadcast s t
+    ∷ (FLIP ∷ CAST ∷ LOAD ∷ KNOWN ∷ []) ⇒ s
+    ∷ (FILL ∷ binaries) ⇒ broadcast s t
     ∷ (WHERE ∷ []) ⇒ broadcast (broadcast s t) u
     ∷ (REDUCE ∷ []) ⇒ reduced s (listOf (x .rowa))
+    ∷ (STACK ∷ []) ⇒ (sizeOf (x .number) ∷ s)
     ∷ []
 
 unfoldable pub resultExtents : Node → List ℕ → List ℕ → List ℕ → List ℕ

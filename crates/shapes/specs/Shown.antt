@@ -8,7 +8,8 @@ use Rattle.laws.specs.Lists.{among}
 use Rattle.laws.specs.Numbering.{count}
 use Rattle.plan.specs.declared.Node.{Node}
 use Rattle.plan.specs.declared.Row.{Row}
-use Rattle.plan.specs.Operations.{PARAM, RESHAPE, EXPAND, PAD, SHRINK, operationCount}
+use Rattle.plan.specs.Words.{sizeOf}
+use Rattle.plan.specs.Operations.{PARAM, RESHAPE, EXPAND, PAD, SHRINK, STACK, isOperation}
 use Rattle.shapes.specs.declared.Shape.{Shape}
 use Rattle.shapes.specs.Rows.{extentsOf}
 use Rattle.shapes.specs.Rules.{elementLimit}
@@ -38,7 +39,8 @@ shaped = PARAM ∷ RESHAPE ∷ EXPAND ∷ PAD ∷ SHRINK ∷ []
 
 -- what has been tested of a node before its shape rule is asked, its first source having extents s
 pub record Tested (x : Node) (s : List ℕ) : Type 0 where
-  pub operation : x .op < operationCount
+  pub operation : isOperation (x .op) ≡ true
   pub row-a : among (x .op) shaped ≡ true → Narrow (x .rowa)
   pub row-b : among (x .op) (PAD ∷ SHRINK ∷ []) ≡ true → Narrow (x .rowb)
   pub counted : x .op ≡ RESHAPE → count s ≤ elementLimit
+  pub stacked : x .op ≡ STACK → (0 < sizeOf (x .number)) × (sizeOf (x .number) ≤ 3)

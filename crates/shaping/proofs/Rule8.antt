@@ -1,21 +1,25 @@
 -- Rule 8 and the extents of a result, by ranges of operations as the code asks for them.
 use Prim.Native.Nat.{ℕ, _+_, _<_, _≤_}
 use native.Mathlib.Omega.{arith}
-use mathlib.Core.Path.{_≡_, refl, ap, _∙_}
-use mathlib.Core.Bool.{Bool, true, false, _&&_, _||_}
+use mathlib.Core.Path.{_≡_, refl, ap, sym, _∙_}
+use mathlib.Core.Bool.{Bool, true, false, _&&_, _||_, not, true≢false}
 use mathlib.Core.List.{List, [], _∷_}
-use borrow.Author.Tests.{ltb-true, ltb-false}
+use borrow.Author.Tests.{ltb-true, ltb-false, ne-eqb, eqb-true, eqb-false}
 use lib.Dec.{eqb, leb, ltb}
 use Rattle.laws.specs.Lists.{among}
 use Rattle.laws.specs.Numbering.{count}
-use Rattle.laws.proofs.Booleans.{bool-cases}
+use Rattle.laws.proofs.Booleans.{bool-cases, or-true}
 use Rattle.plan.specs.declared.Node.{Node}
-use Rattle.plan.specs.Operations.{PAD, SHRINK, byOperation}
-use Rattle.plan.specs.Words.{listOf}
-use Rattle.plan.proofs.ByOperation.{_then_, for-group, for-range}
+use lib.ListN.{length}
+use Rattle.plan.specs.Operations.{PAD, SHRINK, STACK, byOperation}
+use Rattle.plan.specs.Words.{listOf, sizeOf, inNumber}
+use Rattle.plan.proofs.ByOperation.{_then_, for-group, for-range, operation-small, stack-third}
 use Rattle.shapes.specs.Rows.{extentsOf}
-use Rattle.shapes.specs.Rules.{extent, wordOf, sameRank, canBroadcast, broadcast, permuted, reduced, shapeRules, shapesAgree, resultRules, resultExtents}
-use Rattle.shapes.specs.Shown.{capped, shaped, Narrow, Tested}
+use Rattle.shapes.specs.Rules.{extent, wordOf, sameRank, canBroadcast, broadcast, permuted, reduced, sameShape, shapeRules, shapesAgree, resultRules, resultExtents}
+use Rattle.shapes.specs.declared.Shape.{Shape}
+use Rattle.shapes.specs.Shown.{wordsIn, shown, capped, shaped, Narrow, Tested}
+use Rattle.shapes.proofs.Words.{extents-take}
+use Rattle.shapes.proofs.Stacking.{stack-agree, stack-extents}
 use Rattle.shaping.proofs.Axes.{same-rank-swap}
 use Rattle.shaping.proofs.Counts.{same-count}
 
@@ -41,6 +45,11 @@ module _ {x : Node} {s : List ℕ} (tested : Tested x s) where
 
   pub narrow-result : (x .op ≡ 0 → ⊥) → (x .op ≡ 2 → ⊥) → (x .op ≡ 3 → ⊥) → x .op < 8 → Narrow (x .rowa)
   narrow-result p q r h = tested .row-a (row-result (x .op) p q r h)
+
+-- what is left after those of two operands that are broadcast: 9 to 17 and FILL
+past-two : (op : ℕ) → (ltb op 18 || eqb op 21) ≡ false → (18 ≤ op) × (op ≡ 21 → ⊥)
+past-two op e =
+    bool-cases (ltb op 18) (λ b. absurd (true≢false (rw b at e))) (λ b. (ltb-false op 18 b, eqb-false op 21 (rw b at e)))
 
 -- ---- rule 8
 
@@ -77,23 +86,32 @@ module _ (x : Node) (s t u : List ℕ) where
   unfolding shapesAgree among
   agree-cast q = rw q refl
 
-  pub agree-binary : {b : Bool} → b ≡ canBroadcast s t → 8 ≤ x .op → (x .op ≡ 8 → ⊥) → x .op < 18 → b ≡ shapesAgree x s t u
+  pub agree-two : {b : Bool} → b ≡ canBroadcast s t → 8 ≤ x .op → (x .op ≡ 8 → ⊥) → (ltb (x .op) 18 || eqb (x .op) 21) ≡ true → b ≡ shapesAgree x s t u
   unfolding shapesAgree among
-  agree-binary e l n h =
-      e ∙ for-range (λ (k : ℕ). canBroadcast s t ≡ agreeAt k) (x .op) 9 9
-      (refl then refl then refl then refl then refl then refl then refl then refl then refl then tt) (omega arith) h
+  agree-two e l n h =
+      e
+      ∙ or-true (ltb (x .op) 18) (eqb (x .op) 21) h
+      (λ b. for-range (λ (k : ℕ). canBroadcast s t ≡ agreeAt k) (x .op) 9 9
+      (refl then refl then refl then refl then refl then refl then refl then refl then refl then tt) (omega arith) (ltb-true _ _ b))
+      (λ b. ap agreeAt (sym (eqb-true (x .op) 21 b)))
 
   pub agree-where : {b c : Bool} {r : List ℕ} → x .op ≡ 18 → b ≡ canBroadcast s t → r ≡ broadcast s t → c ≡ canBroadcast r u → (b && c) ≡ shapesAgree x s t u
   unfolding shapesAgree among
   agree-where q e f g = rw (q, e, g, f)
 
-  pub agree-last : 18 ≤ x .op → (x .op ≡ 18 → ⊥) → x .op < 21 → true ≡ shapesAgree x s t u
+  pub agree-last : (ltb (x .op) 18 || eqb (x .op) 21) ≡ false → (x .op ≡ 18 → ⊥) → (x .op ≡ 23 → ⊥) → Tested x s → true ≡ shapesAgree x s t u
   unfolding shapesAgree among
-  agree-last l n h = for-range (λ (k : ℕ). true ≡ agreeAt k) (x .op) 19 2 (refl then refl then tt) (omega arith) h
+  agree-last z n o k =
+      let l : 18 ≤ x .op = past-two (x .op) z .0 in
+      let m = past-two (x .op) z .1 in
+      let h : x .op < 24 = operation-small (x .op) (k .operation) in
+      bool-cases (ltb (x .op) 21)
+      (λ e. for-range (λ (k : ℕ). true ≡ agreeAt k) (x .op) 19 2 (refl then refl then tt) (omega arith) (ltb-true _ _ e))
+      (λ e. let z : x .op ≡ 22 = omega (arith, ltb-false (x .op) 21 e) in rw z refl)
 
 pub ruleset movement-laws = (agree-reshape, agree-expand, agree-pad, agree-shrink)
 
-pub ruleset agree-laws = (agree-any, agree-cast, agree-binary, agree-where, agree-last)
+pub ruleset agree-laws = (agree-any, agree-cast, agree-two, agree-where, agree-last)
 
 -- ---- the extents of a result
 
@@ -124,11 +142,14 @@ module _ (x : Node) (s t u : List ℕ) where
   unfolding resultExtents among
   result-cast q = rw q refl
 
-  pub result-binary : {r : List ℕ} → r ≡ broadcast s t → 8 ≤ x .op → (x .op ≡ 8 → ⊥) → x .op < 18 → r ≡ resultExtents x s t u
+  pub result-two : {r : List ℕ} → r ≡ broadcast s t → 8 ≤ x .op → (x .op ≡ 8 → ⊥) → (ltb (x .op) 18 || eqb (x .op) 21) ≡ true → r ≡ resultExtents x s t u
   unfolding resultExtents among
-  result-binary e l n h =
-      e ∙ for-range (λ (k : ℕ). broadcast s t ≡ extentsAt k) (x .op) 9 9
-      (refl then refl then refl then refl then refl then refl then refl then refl then refl then tt) (omega arith) h
+  result-two e l n h =
+      e
+      ∙ or-true (ltb (x .op) 18) (eqb (x .op) 21) h
+      (λ b. for-range (λ (k : ℕ). broadcast s t ≡ extentsAt k) (x .op) 9 9
+      (refl then refl then refl then refl then refl then refl then refl then refl then refl then tt) (omega arith) (ltb-true _ _ b))
+      (λ b. ap extentsAt (sym (eqb-true (x .op) 21 b)))
 
   pub result-where : {q r : List ℕ} → x .op ≡ 18 → q ≡ broadcast s t → r ≡ broadcast q u → r ≡ resultExtents x s t u
   unfolding resultExtents among
@@ -138,8 +159,28 @@ module _ (x : Node) (s t u : List ℕ) where
   unfolding resultExtents among
   result-reduce q e = rw q e
 
-  pub result-load : 18 ≤ x .op → (x .op ≡ 18 → ⊥) → (x .op ≡ 19 → ⊥) → x .op < 21 → s ≡ resultExtents x s t u
+  pub result-last : (ltb (x .op) 18 || eqb (x .op) 21) ≡ false → (x .op ≡ 18 → ⊥) → (x .op ≡ 19 → ⊥) → (x .op ≡ 23 → ⊥) → Tested x s → s ≡ resultExtents x s t u
   unfolding resultExtents among
-  result-load l m n h = for-range (λ (k : ℕ). s ≡ extentsAt k) (x .op) 20 1 (refl then tt) (omega arith) h
+  result-last y m n p k =
+      let l : 18 ≤ x .op = past-two (x .op) y .0 in
+      let o = past-two (x .op) y .1 in
+      let h : x .op < 24 = operation-small (x .op) (k .operation) in
+      bool-cases (ltb (x .op) 21)
+      (λ e. let z : x .op ≡ 20 = omega (arith, ltb-true (x .op) 21 e) in rw z refl)
+      (λ e. let z : x .op ≡ 22 = omega (arith, ltb-false (x .op) 21 e) in rw z refl)
 
-pub ruleset result-laws = (result-const, result-permute, result-flip, result-row, result-cast, result-binary, result-where, result-reduce, result-load)
+pub ruleset result-laws = (result-const, result-permute, result-flip, result-row, result-cast, result-two, result-where, result-reduce, result-last)
+
+-- ---- STACK
+
+module _ (x : Node) (s t u : List ℕ) (q : x .op ≡ STACK) where
+  pub agree-stack : {b c third : Bool} {n : ℕ} → third ≡ inNumber x 3 → b ≡ sameShape s t → c ≡ sameShape s u → n ≡ length s
+      → (b && ((not third || c) && leb n 3)) ≡ shapesAgree x s t u
+  agree-stack e f g h = rw (stack-agree x s t u q, e, stack-third x q, f, g, h) refl
+
+pub stack-words : (x : Node) (s : Shape) (t u : List ℕ) {m : ℕ} → x .op ≡ STACK → Tested x (shown s) → length (shown s) ≤ 3 → m ≡ sizeOf (x .number)
+    → extentsOf (m ∷ s .n0 ∷ s .n1 ∷ s .n2 ∷ []) ≡ resultExtents x (shown s) t u
+unfolding extentsOf
+stack-words x s t u {m} q tested h e =
+    let some : m ≡ 0 → ⊥ = λ z. omega (arith, tested .stacked q .0) in
+    rw (stack-extents x (shown s) t u q, ne-eqb m 0 some, ← e) (ap (λ (r : List ℕ). m ∷ r) (extents-take 3 (wordsIn s) h))

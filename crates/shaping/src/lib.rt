@@ -6,10 +6,10 @@ ghost use Prim.Native.Nat.{ℕ, _+_, _<_, _≤_, max};
 ghost use lib.Dec.{eqb, leb};
 ghost use lib.ListN.{length, replicate};
 ghost use Rattle.laws.specs.Numbering.{count};
-ghost use Rattle.plan.specs.Operations.{PERMUTE};
+ghost use Rattle.plan.specs.Operations.{PERMUTE, STACK};
 ghost use Rattle.plan.specs.Words.{listOf};
 ghost use Rattle.shapes.specs.Rows.{extentsOf, isPermutation};
-ghost use Rattle.shapes.specs.Rules.{extent, wordOf, sameRank, equalOrOne, canBroadcast, broadcast, permuted, reduced, gatheredExtents, shapesAgree, resultExtents};
+ghost use Rattle.shapes.specs.Rules.{extent, wordOf, sameRank, equalOrOne, canBroadcast, broadcast, permuted, reduced, gatheredExtents, sameShape, shapesAgree, resultExtents};
 ghost use Rattle.shapes.specs.Shown.{wordsIn, shown, capped, Tested};
 ghost use Rattle.shaping.specs.RightAligned.{RightAligned};
 use plan::Node;
@@ -310,6 +310,43 @@ fn movement_agrees(x: Node, s: Shape) -> bool
     fits(r, s, o)
 }
 
+// The same extents.
+fn same_shape(s: Shape, r: Shape) -> bool
+    ensures { λ b. ⌜ b ≡ sameShape (shown s) (shown r) ⌝ }
+{
+    let n = shapes::rank(s);
+    let m = shapes::rank(r);
+    if n != m {
+        return false;
+    }
+    shapes::all_below(n, s.n0 == r.n0, s.n1 == r.n1, s.n2 == r.n2, s.n3 == r.n3)
+}
+
+// Rule 8 of a STACK: the shapes of its two or three sources are equal, and there is an axis left.
+fn stack_agrees(x: Node, a: Shape, b: Shape, c: Shape) -> bool
+    requires { ⌜ x .op ≡ STACK ⌝ }
+    ensures { λ r. ⌜ r ≡ shapesAgree x (shown a) (shown b) (shown c) ⌝ }
+{
+    same_shape(a, b) & ((!plan::in_number(x, 3) | same_shape(a, c)) & (shapes::rank(a) <= 3))
+}
+
+// The shape of a STACK: its number of sources in front of their shape.
+fn stacked(x: Node, s: Shape) -> Shape
+    requires { ⌜ x .op ≡ STACK ⌝ }
+    requires { ⌜ Tested x (shown s) ⌝ }
+    requires { ⌜ length (shown s) ≤ 3 ⌝ }
+    ensures { λ r. ⌜ ((t u : List ℕ) → shown r ≡ resultExtents x (shown s) t u) ⌝ }
+{
+    let number = x.number;
+    let m = plan::size_of_word(number);
+    Shape {
+        n0: m as u32,
+        n1: s.n0,
+        n2: s.n1,
+        n3: s.n2,
+    }
+}
+
 // Rule 8, without its limit on the result's count.
 pub fn shapes_agree(x: Node, a: Shape, b: Shape, c: Shape) -> bool
     requires { ⌜ Tested x (shown a) ⌝ }
@@ -325,11 +362,14 @@ pub fn shapes_agree(x: Node, a: Shape, b: Shape, c: Shape) -> bool
     if op == 8 {
         return true;
     }
-    if op < 18 {
+    if (op < 18) | (op == 21) {
         return can_broadcast(a, b);
     }
     if op == 18 {
         return can_broadcast(a, b) & can_broadcast(broadcast(a, b), c);
+    }
+    if op == 23 {
+        return stack_agrees(x, a, b, c);
     }
     true
 }
@@ -338,6 +378,7 @@ pub fn shapes_agree(x: Node, a: Shape, b: Shape, c: Shape) -> bool
 pub fn result_shape(x: Node, a: Shape, b: Shape, c: Shape) -> Shape
     requires { ⌜ Tested x (shown a) ⌝ }
     requires { ⌜ (x .op ≡ PERMUTE → isPermutation (length (shown a)) (listOf (x .rowa)) ≡ true) ⌝ }
+    requires { ⌜ (x .op ≡ STACK → length (shown a) ≤ 3) ⌝ }
     ensures { λ r. ⌜ shown r ≡ resultExtents x (shown a) (shown b) (shown c) ⌝ }
 {
     let op = x.op;
@@ -362,14 +403,24 @@ pub fn result_shape(x: Node, a: Shape, b: Shape, c: Shape) -> Shape
     if op == 8 {
         return a;
     }
-    if op < 18 {
+    if (op < 18) | (op == 21) {
         return broadcast(a, b);
     }
     if op == 18 {
-        return broadcast(broadcast(a, b), c);
+        // by its extents: handed on whole it would keep the shapes of all operations in memory
+        let r = broadcast(broadcast(a, b), c);
+        return Shape {
+            n0: r.n0,
+            n1: r.n1,
+            n2: r.n2,
+            n3: r.n3,
+        };
     }
     if op == 19 {
         return reduced(a, rowa);
+    }
+    if op == 23 {
+        return stacked(x, a);
     }
     a
 }

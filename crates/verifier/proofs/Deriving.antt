@@ -1,11 +1,11 @@
 -- The loop over the nodes: what is known before node i, and each way on from it.
-use Prim.Native.Nat.{ℕ, zero, suc, _+_, _<_, _≤_, _^_, _/_, _%_}
+use Prim.Native.Nat.{ℕ, zero, suc, _+_, _<_, _≤_}
 use mathlib.Core.Path.{_≡_, refl, sym, ap, _∙_}
 use mathlib.Core.Bool.{Bool, true, false, cond}
 use mathlib.Core.List.{List, [], _∷_, _++_, map, map-append}
 use native.Mathlib.Omega.{arith}
 use native.Mathlib.Numerals.{add-one}
-use borrow.Author.Tests.{ltb-true, leb-true, ne-eqb}
+use borrow.Author.Tests.{leb-true, ne-eqb}
 use lib.IntN.{ℤ}
 use lib.Dec.{eqb}
 use lib.ListN.{length, getD, set, take, length-set, length-map}
@@ -16,8 +16,8 @@ use Rattle.laws.proofs.Booleans.{bool-cases, and-true}
 use Rattle.laws.proofs.Lists.{getD-map, take-whole, sum-append}
 use Rattle.plan.specs.declared.Node.{Node}
 use Rattle.plan.specs.declared.NodeNumber.{NodeNumber}
-use Rattle.plan.specs.Operations.{uses, masks}
-use Rattle.plan.specs.Words.{nodeAt, overParams, paramsBefore}
+use Rattle.plan.specs.Operations.{masks}
+use Rattle.plan.specs.Words.{nodeAt, overParams, paramsBefore, reads}
 use Rattle.plan.specs.Answers.{Outcome, accepted, refuse, inTurn, AllHold, FirstFailing, here}
 use Rattle.plan.proofs.Outcomes.{first-front, first-back, all-both, order-fails, order-holds, turn-more, turn-stays}
 use Rattle.shapes.specs.Rules.{elementLimit, shapesAgree, resultExtents}
@@ -31,7 +31,6 @@ use Rattle.verifier.specs.Verdicts.{Derives}
 use Rattle.verifier.proofs.Accepted.{checked-meets}
 use Rattle.verifier.proofs.Numbers.{InRange, number-of}
 use Rattle.verifier.proofs.Nodes.{few-elements, source-has, sources-before}
-use Rattle.rules.proofs.EarlyRules.{bit-uses}
 
 -- the check of n nodes ends with this number at node i
 pub record Stops (t : List ℤ) (n number i : ℕ) : Type 0 where
@@ -64,11 +63,11 @@ module _ (t : List ℤ) (i : ℕ) (ds : List Record) (params total : ℕ) (so : 
   -- ---- sources
 
   -- a source that the code picked is the one that the rules name
-  pub source-view : (d : Record) (op mask k : ℕ) (s : NodeNumber) (place : ℕ) (r : Record) → Masked op mask → k < 17 → (uses op k ≡ true → s .0 < i) → (s .0 < i → place ≡ s .0)
-      → viewOf r ≡ cond (eqb (mask / 2 ^ k % 2) 1) (viewOf (getD ds place d)) noSource → viewOf r ≡ sourceOf (map viewOf (take i ds)) op k s
+  pub source-view : (d : Record) (x : Node) (k : ℕ) (s : NodeNumber) (place : ℕ) (r : Record) → (reads x k ≡ true → s .0 < i) → (s .0 < i → place ≡ s .0)
+      → viewOf r ≡ cond (reads x k) (viewOf (getD ds place d)) noSource → viewOf r ≡ sourceOf (map viewOf (take i ds)) x k s
   unfolding sourceOf
-  source-view d op mask k s place r m h before at e =
-      e ∙ rw (bit-uses k m h) (bool-cases (uses op k) (λ u. rw u (used (before u))) (λ u. rw u refl))
+  source-view d x k s place r before at e =
+      e ∙ bool-cases (reads x k) (λ u. rw u (used (before u))) (λ u. rw u refl)
     where
       used : s .0 < i → viewOf (getD ds place d) ≡ getD (map viewOf (take i ds)) (s .0) noSource
       used l =
@@ -76,12 +75,12 @@ module _ (t : List ℤ) (i : ℕ) (ds : List Record) (params total : ℕ) (so : 
           rw (at l, getD-map viewOf (take i ds) (s .0) noSource d here, getD-take i ds (s .0) d l) refl
 
   -- its count of elements is at most the limit
-  pub source-few : (op k : ℕ) (s : NodeNumber) → count (sourceOf (map viewOf (take i ds)) op k s .extents) ≤ elementLimit
+  pub source-few : (x : Node) (k : ℕ) (s : NodeNumber) → count (sourceOf (map viewOf (take i ds)) x k s .extents) ≤ elementLimit
   unfolding count
-  source-few op k s =
+  source-few x k s =
       let meets = checked-meets t i earlier (so .checked) in
       rw (take-whole i earlier (omega (arith, as-many))) at
-      (source-has (λ (d : Derived). countOf d ≤ elementLimit) earlier i (omega arith) (λ j l. few-elements t j (take j earlier) (getD earlier j noSource) (meets .each j l)) op k s)
+      (source-has (λ (d : Derived). countOf d ≤ elementLimit) earlier i (omega arith) (λ j l. few-elements t j (take j earlier) (getD earlier j noSource) (meets .each j l)) x k s)
 
   -- ---- a refusal
 
@@ -144,9 +143,9 @@ module _ (t : List ℤ) (i : ℕ) (ds : List Record) (params total : ℕ) (so : 
 -- what rules 2 to 4 say of the node that the code read
 module _ (t : List ℤ) (i : ℕ) (x : Node) (q : x ≡ nodeAt t i) (h : AllHold (earlyRulesOf t i)) where
   pub masked-of : (mask : ℕ) → mask ≡ getD masks (x .op) 0 → Masked (x .op) mask
-  masked-of mask e = record { known = rw q (ltb-true _ _ (h .0)); is-mask = e }
+  masked-of mask e = record { known = rw q (h .0); is-mask = e }
 
-  pub before-of : (uses (x .op) 1 ≡ true → x .source1 .0 < i) × (uses (x .op) 2 ≡ true → x .source2 .0 < i) × (uses (x .op) 3 ≡ true → x .source3 .0 < i)
+  pub before-of : (reads x 1 ≡ true → x .source1 .0 < i) × (reads x 2 ≡ true → x .source2 .0 < i) × (reads x 3 ≡ true → x .source3 .0 < i)
   before-of = rw q (sources-before (nodeAt t i) i (h .1 .1 .0))
 
 -- ---- what keeps the loop's sums small

@@ -14,15 +14,16 @@ use Rattle.laws.proofs.Booleans.{bool-cases, cond-both, and-true}
 use Rattle.laws.proofs.Induction.{each-below}
 use Rattle.plan.specs.declared.Node.{Node}
 use Rattle.plan.specs.declared.NodeNumber.{NodeNumber}
-use Rattle.plan.specs.Operations.{PERMUTE, operationCount, uses}
+use Rattle.plan.specs.Operations.{PERMUTE, STACK, isOperation}
 use Rattle.plan.specs.Types.{contains, rangeOf}
-use Rattle.plan.specs.Words.{nodeAt, listOf, paramsBefore}
+use Rattle.plan.specs.Words.{nodeAt, listOf, paramsBefore, sizeOf, reads}
 use Rattle.shapes.specs.Rows.{isPermutation}
 use Rattle.shapes.specs.Rules.{elementLimit, shapesAgree, resultExtents}
 use Rattle.shapes.proofs.Extents.{Extents, no-extents, result-extents}
 use Rattle.bounds.specs.Rules.{resultBounds}
 use Rattle.rules.specs.Rules.{Derived, noSource, sourceOf, implies, sourcesEarlier, rowsRight, shapeRight, divisorRight, boundsInType, derivedOf}
-use Rattle.rules.proofs.RowRule.{permute-rule}
+use Rattle.rules.proofs.RowRule.{permute-rule, stack-rule}
+use Rattle.shapes.proofs.Stacking.{stack-rank}
 use Rattle.verifier.specs.Check.{first, second, third, countOf}
 use Rattle.verifier.specs.Meets.{ruleHolds, NodeMeets, NodesMeet}
 
@@ -30,21 +31,21 @@ implied : (p q : Bool) → implies p q ≡ true → p ≡ true → q ≡ true
 implied true q e h = e
 implied false q e h = absurd (false≢true h)
 
--- rule 4: the sources that are used are earlier nodes
+-- rule 4: the sources that are read are earlier nodes
 pub sources-before : (x : Node) (n : ℕ) → sourcesEarlier x n ≡ true
-    → (uses (x .op) 1 ≡ true → x .source1 .0 < n) × (uses (x .op) 2 ≡ true → x .source2 .0 < n) × (uses (x .op) 3 ≡ true → x .source3 .0 < n)
+    → (reads x 1 ≡ true → x .source1 .0 < n) × (reads x 2 ≡ true → x .source2 .0 < n) × (reads x 3 ≡ true → x .source3 .0 < n)
 unfolding sourcesEarlier
 sources-before x n e =
-    let f = and-true (implies (uses (x .op) 1) (ltb (x .source1 .0) n)) _ e in
-    let g = and-true (implies (uses (x .op) 2) (ltb (x .source2 .0) n)) (implies (uses (x .op) 3) (ltb (x .source3 .0) n)) (f .1) in
-    (λ u. ltb-true _ _ (implied (uses (x .op) 1) _ (f .0) u), λ u. ltb-true _ _ (implied (uses (x .op) 2) _ (g .0) u), λ u. ltb-true _ _ (implied (uses (x .op) 3) _ (g .1) u))
+    let f = and-true (implies (reads x 1) (ltb (x .source1 .0) n)) _ e in
+    let g = and-true (implies (reads x 2) (ltb (x .source2 .0) n)) (implies (reads x 3) (ltb (x .source3 .0) n)) (f .1) in
+    (λ u. ltb-true _ _ (implied (reads x 1) _ (f .0) u), λ u. ltb-true _ _ (implied (reads x 2) _ (g .0) u), λ u. ltb-true _ _ (implied (reads x 3) _ (g .1) u))
 
 -- ---- one node, from its rules
 
 module _ (t : List ℤ) (i : ℕ) (earlier : List Derived) (d : Derived) (m : NodeMeets t i earlier d) where
-  pub op-known : nodeAt t i .op < operationCount
+  pub op-known : isOperation (nodeAt t i .op) ≡ true
   unfolding ruleHolds among
-  op-known = ltb-true _ _ (m .holds 2 (omega arith) (omega arith))
+  op-known = m .holds 2 (omega arith) (omega arith)
 
   sources-right : sourcesEarlier (nodeAt t i) i ≡ true
   unfolding ruleHolds among
@@ -63,17 +64,21 @@ module _ (t : List ℤ) (i : ℕ) (earlier : List Derived) (d : Derived) (m : No
   divisor-right = m .holds 10 (omega arith) (omega arith)
 
   -- "the source always being an earlier node"
-  pub source1-before : uses (nodeAt t i .op) 1 ≡ true → nodeAt t i .source1 .0 < i
+  pub source1-before : reads (nodeAt t i) 1 ≡ true → nodeAt t i .source1 .0 < i
   source1-before = sources-before (nodeAt t i) i sources-right .0
 
-  pub source2-before : uses (nodeAt t i .op) 2 ≡ true → nodeAt t i .source2 .0 < i
+  pub source2-before : reads (nodeAt t i) 2 ≡ true → nodeAt t i .source2 .0 < i
   source2-before = sources-before (nodeAt t i) i sources-right .1
 
-  pub source3-before : uses (nodeAt t i .op) 3 ≡ true → nodeAt t i .source3 .0 < i
+  pub source3-before : reads (nodeAt t i) 3 ≡ true → nodeAt t i .source3 .0 < i
   source3-before = sources-before (nodeAt t i) i sources-right .2
 
   pub permutation-row : nodeAt t i .op ≡ PERMUTE → isPermutation (length (first (nodeAt t i) earlier .extents)) (listOf (nodeAt t i .rowa)) ≡ true
   permutation-row q = permute-rule (nodeAt t i) _ _ rows-right q
+
+  -- a STACK has a source
+  pub stack-some : nodeAt t i .op ≡ STACK → 0 < sizeOf (nodeAt t i .number)
+  stack-some q = omega (arith, stack-rule (nodeAt t i) _ _ rows-right q .0)
 
   pub shapes-agree : shapesAgree (nodeAt t i) (first (nodeAt t i) earlier .extents) (second (nodeAt t i) earlier .extents) (third (nodeAt t i) earlier .extents) ≡ true
   unfolding shapeRight
@@ -100,10 +105,10 @@ module _ (t : List ℤ) (i : ℕ) (earlier : List Derived) (d : Derived) (m : No
 
 -- what holds of the records before node i, and of none, holds of its sources
 pub source-has : (P : Derived → Type 0) (ds : List Derived) (i : ℕ) → P noSource → ((j : ℕ) → j < i → P (getD ds j noSource))
-    → (op k : ℕ) (s : NodeNumber) → P (sourceOf (take i ds) op k s)
+    → (x : Node) (k : ℕ) (s : NodeNumber) → P (sourceOf (take i ds) x k s)
 unfolding sourceOf
-source-has P ds i none before op k s =
-    cond-both P (uses op k) (getD (take i ds) (s .0) noSource) noSource (λ u. here) (λ u. none)
+source-has P ds i none before x k s =
+    cond-both P (reads x k) (getD (take i ds) (s .0) noSource) noSource (λ u. here) (λ u. none)
   where
     here : P (getD (take i ds) (s .0) noSource)
     here =
@@ -114,10 +119,10 @@ source-has P ds i none before op k s =
         let past : length (take i ds) ≤ s .0 = rw length-take (omega arith) in
         rw (List·getD-eq-default (take i ds) noSource past) none)
 
--- a source that is used is its record
-pub source-is : (ds : List Derived) (i op k : ℕ) (s : NodeNumber) → uses op k ≡ true → s .0 < i → sourceOf (take i ds) op k s ≡ getD ds (s .0) noSource
+-- a source that is read is its record
+pub source-is : (ds : List Derived) (i : ℕ) (x : Node) (k : ℕ) (s : NodeNumber) → reads x k ≡ true → s .0 < i → sourceOf (take i ds) x k s ≡ getD ds (s .0) noSource
 unfolding sourceOf
-source-is ds i op k s u h = rw (u, getD-take i ds (s .0) noSource h) refl
+source-is ds i x k s u h = rw (u, getD-take i ds (s .0) noSource h) refl
 
 -- ---- all nodes
 
@@ -128,6 +133,7 @@ module _ (t : List ℤ) (n : ℕ) (ds : List Derived) (m : NodesMeet t n ds) whe
       each-below (λ (i : ℕ). Extents (getD ds i noSource .extents)) n
       (λ i h before.
       let x = nodeAt t i in
-      let has = source-has (λ (d : Derived). Extents (d .extents)) ds i no-extents before (nodeAt t i .op) in
+      let has = source-has (λ (d : Derived). Extents (d .extents)) ds i no-extents before (nodeAt t i) in
       rw (extents-derived t i (take i ds) (getD ds i noSource) (m .each i h))
-      (result-extents (nodeAt t i) _ _ _ (has 1 (nodeAt t i .source1)) (has 2 (nodeAt t i .source2)) (has 3 (nodeAt t i .source3))))
+      (result-extents (nodeAt t i) _ _ _ (has 1 (nodeAt t i .source1)) (has 2 (nodeAt t i .source2)) (has 3 (nodeAt t i .source3))
+      (λ q. (stack-some t i (take i ds) (getD ds i noSource) (m .each i h) q, stack-rank (nodeAt t i) _ _ _ q (shapes-agree t i (take i ds) (getD ds i noSource) (m .each i h))))))

@@ -44,7 +44,7 @@ module _ (t : List ℤ) {w : Derivation} (d : Ends t w) where
 
 module _ (s : List ℕ) {r : Plan} (q : r ≡ planOf (unpack s 4352)) where
   module _ {n p : ℕ} (e : r ≡ Stop n p) where
-    pub stop-small : (n ≤ 24) × (p ≤ length s)
+    pub stop-small : (n ≤ 26) × (p ≤ length s)
     stop-small = unpack-place s 4352 (stop-is (unpack s 4352) q e)
 
     pub stop-code : 65536 * n + p ≡ codeOf (unpackCheck s)

@@ -15,13 +15,13 @@ use Rattle.rules.specs.Rules.{Derived, sourceOf, derivedOf, rulesOf}
 
 -- source k of a node after the earlier ones
 abbrev pub first : Node → List Derived → Derived
-first x earlier = sourceOf earlier (x .op) 1 (x .source1)
+first x earlier = sourceOf earlier x 1 (x .source1)
 
 abbrev pub second : Node → List Derived → Derived
-second x earlier = sourceOf earlier (x .op) 2 (x .source2)
+second x earlier = sourceOf earlier x 2 (x .source2)
 
 abbrev pub third : Node → List Derived → Derived
-third x earlier = sourceOf earlier (x .op) 3 (x .source3)
+third x earlier = sourceOf earlier x 3 (x .source3)
 
 -- what is derived of node n after the earlier ones
 unfoldable pub deriveNode : List ℤ → ℕ → List Derived → Derived

@@ -4,9 +4,8 @@ use mathlib.Core.Path.{_≡_}
 use mathlib.Core.Bool.{Bool, true, false}
 use mathlib.Core.List.{List, [], _∷_}
 use lib.IntN.{ℤ}
-use lib.Dec.{ltb}
 use lib.ListN.{length, getD, take}
-use Rattle.plan.specs.Operations.{operationCount, _⇒_, byOperation}
+use Rattle.plan.specs.Operations.{isOperation, _⇒_, byOperation}
 use Rattle.plan.specs.Words.{nodeAt, wordsOf, nodeCount, paramsBefore, lengthRight, unusedZero}
 use Rattle.plan.specs.Answers.{Refusal}
 use Rattle.rules.specs.Rules.{Derived, noSource, sourcesEarlier, typeNamed, typesAgree, rowsRight, shapeRight, devicesAgree, divisorRight, boundsInType, derivedOf}
@@ -21,11 +20,11 @@ ruleHolds t n earlier k =
     let b = second x earlier in
     let c = third x earlier in
     byOperation k
-    ((2 ∷ []) ⇒ ltb (x .op) operationCount
+    ((2 ∷ []) ⇒ isOperation (x .op)
     ∷ (3 ∷ []) ⇒ unusedZero (x .op) (wordsOf t n)
     ∷ (4 ∷ []) ⇒ sourcesEarlier x n
     ∷ (5 ∷ []) ⇒ typeNamed x
-    ∷ (6 ∷ []) ⇒ typesAgree (x .op) (a .dtype) (b .dtype) (c .dtype)
+    ∷ (6 ∷ []) ⇒ typesAgree x (a .dtype) (b .dtype) (c .dtype)
     ∷ (7 ∷ []) ⇒ rowsRight x (paramsBefore t n) (length (a .extents))
     ∷ (8 ∷ []) ⇒ shapeRight x (a .extents) (b .extents) (c .extents)
     ∷ (9 ∷ []) ⇒ devicesAgree (a .device) (b .device) (c .device)

@@ -1,17 +1,20 @@
 // The check of a plan: its answer and what it writes.
-ghost use Prim.Native.Nat.{ℕ, _+_, _*_, _≤_, _<_, _^_, _/_, _%_};
+ghost use Prim.Native.Nat.{ℕ, _+_, _*_, _≤_, _<_, _/_};
 ghost use mathlib.Core.Path.{_≡_};
 ghost use mathlib.Core.Bool.{cond};
 ghost use mathlib.Core.List.{[], _∷_, map};
 ghost use lib.Dec.{eqb};
-ghost use lib.ListN.{length, take};
+ghost use lib.ListN.{length, take, getD};
 ghost use lib.Seq.{sets};
 ghost use Rattle.laws.specs.Lists.{concat};
+ghost use Rattle.plan.specs.Operations.{masks};
+ghost use Rattle.plan.specs.Words.{reads};
 ghost use Rattle.rules.specs.Rules.{noSource};
 ghost use Rattle.rules.specs.Code.{viewOf};
 ghost use Rattle.verifier.specs.Check.{derivedWords, check, checkAnswer, derivedAfter, unpackCheck, codeOf};
 ghost use Rattle.verifier.specs.Verdicts.{Derives, Ends, codeIn};
 use codec::Plan;
+use plan::Node;
 use plan::NodeNumber;
 use rules::Judged;
 use rules::Record;
@@ -34,12 +37,12 @@ pub fn source_place(s: NodeNumber, i: usize) -> usize
     if n < i { n } else { 0 }
 }
 
-// A source's record, or what stands for one that is not used.
-fn source_record(mask: usize, k: usize, r: Record) -> Record
-    requires { ⌜ k < 17 ⌝ }
-    ensures { λ s. ⌜ viewOf s ≡ cond (eqb (mask / 2 ^ k % 2) 1) (viewOf r) noSource ⌝ }
+// A source's record, or what stands for one that is not read.
+fn source_record(x: Node, mask: usize, k: usize, r: Record) -> Record
+    requires { ⌜ (mask ≡ getD masks (x .op) 0) × (k < 17) ⌝ }
+    ensures { λ s. ⌜ viewOf s ≡ cond (reads x k) (viewOf r) noSource ⌝ }
 {
-    if plan::uses_word(mask, k) {
+    if plan::reads(x, mask, k) {
         return r;
     }
     rules::blank()
@@ -92,9 +95,9 @@ pub fn derive(table: &[i64], count: usize) -> Derivation
         let place1 = source_place(x.source1, i);
         let place2 = source_place(x.source2, i);
         let place3 = source_place(x.source3, i);
-        let a = source_record(mask, 1, records[place1]);
-        let b = source_record(mask, 2, records[place2]);
-        let c = source_record(mask, 3, records[place3]);
+        let a = source_record(x, mask, 1, records[place1]);
+        let b = source_record(x, mask, 2, records[place2]);
+        let c = source_record(x, mask, 3, records[place3]);
         let judged = rules::judge(x, mask, params, a, b, c);
         match judged {
             Judged::Breaks(number) => {

@@ -1,6 +1,6 @@
 use borrow.Author.Needs.{needs}
 use Rattle.laws.proofs.Machine.{R-is, fit-at}
-use Rattle.bounds.proofs.ByRange.{bounds-const, bounds-param, bounds-moved, bounds-binary, bounds-where, bounds-reduce, bounds-load}
+use Rattle.bounds.proofs.ByRange.{bounds-const, bounds-param, bounds-moved, bounds-binary, bounds-where, bounds-reduce, bounds-load, bounds-fill, bounds-known, last-operation, bounds-stack}
 use Rattle.bounds.proofs.result_bounds.Statement.{statement}
 use Rattle.bounds.proofs.result_bounds.Tie as tie
 
@@ -41,8 +41,28 @@ returns-6 c =
     bounds-reduce x _ _ _ _ (c .before .before .if6 .taken) (rw number at (c .reduce-bounds .ensures))
 
 returns-7 : tie.Need-returns-7
-returns-7 c =
-    bounds-load _ _ _ _ _ (c .before .before .if4 .left) (c .before .if5 .left) (c .if6 .left) (c .before .before .before .before .before .before .pre .0)
+returns-7 c = bounds-load _ _ _ _ _ (c .if7 .taken)
+
+where-bounds-requires-2 : tie.Need-where-bounds-requires-2
+where-bounds-requires-2 c κs = search needs
+
+returns-8 : tie.Need-returns-8
+returns-8 c = bounds-fill _ _ _ _ _ (c .before .if8 .taken) (c .where-bounds2 .ensures)
+
+returns-9 : tie.Need-returns-9
+returns-9 c = bounds-known _ _ _ _ _ (c .if9 .taken)
+
+in-number-requires : tie.Need-in-number-requires
+in-number-requires c κs = search needs
+
+stack-bounds-requires : tie.Need-stack-bounds-requires
+stack-bounds-requires c κs = search needs
+
+returns-10 : tie.Need-returns-10
+returns-10 c =
+    let start = c .before .before .before .before .before .before .before .before .before .before .before in
+    let q = last-operation (start .args .x) (c .before .before .before .before .before .before .before .if4 .left) (c .before .before .before .before .before .before .if5 .left) (c .before .before .before .before .before .if6 .left) (c .before .before .before .before .if7 .left) (c .before .before .before .if8 .left) (c .before .before .if9 .left) (start .pre .0) in
+    bounds-stack _ _ _ _ _ q (c .before .in-number .ensures) (c .stack-bounds .ensures)
 
 pub result-bounds-spec : {M : Type 1} → statement M
 result-bounds-spec =
@@ -57,4 +77,10 @@ result-bounds-spec =
     returns-5
     reduce-bounds-requires
     returns-6
-    returns-7)
+    returns-7
+    where-bounds-requires-2
+    returns-8
+    returns-9
+    in-number-requires
+    stack-bounds-requires
+    returns-10)

@@ -12,14 +12,14 @@ use Rattle.codec.proofs.nodes.Statement.{statement}
 use Rattle.codec.proofs.nodes.Tie as tie
 
 abbrev Inv-loop : tie.InvT-loop
-Inv-loop s start count tab₀ at₀ n₀ tab at n = (n ≤ count) × (length tab ≡ length tab₀) × SoFar (nodesAt n s start) at tab₀ 0 tab
+Inv-loop s edition start count tab₀ at₀ n₀ tab at n = (n ≤ count) × (length tab ≡ length tab₀) × SoFar (nodesAt edition n s start) at tab₀ 0 tab
 
 abbrev μ-loop : tie.MeasureT-loop
-μ-loop s start count tab₀ at₀ n₀ tab at n = count - n
+μ-loop s edition start count tab₀ at₀ n₀ tab at n = count - n
 
 loop-holds : tie.Need-loop-holds Inv-loop μ-loop
 unfolding nodesAt
-loop-holds c = (search needs, search needs, begun (addNode _) _ refl)
+loop-holds c = (search needs, search needs, begun (addNode _ _) _ refl)
 
 mul-node : tie.Need-mul-node Inv-loop μ-loop
 mul-node c = search needs
@@ -38,7 +38,7 @@ unfolding nodesAt
 returns c =
     let w = c .before .before .before .before in
     let l = w .before .before .before .loop in
-    stopped (turn-stops (addNode _) _ (l .n) (l .inv .2) (readNode _) (node-adds _ _) (w .node .ensures) (c .before .number .given .1) (omega arith))
+    stopped (turn-stops (addNode _ _) _ (l .n) (l .inv .2) (readNode _ _) (node-adds _ _ _) (w .node .ensures) (c .before .number .given .1) (omega arith))
 
 enum-known-next : tie.Need-enum-known-next Inv-loop μ-loop
 enum-known-next c = search needs
@@ -55,9 +55,9 @@ loop-again c =
     let w = c .before .before .before .before in
     let l = w .before .before .before .loop in (
       omega arith,
-      w .node .kept .1 .1 .0 ∙ l .inv .1,
-      turn-reads (addNode _) _ (l .n) (l .inv .2) (readNode _) (node-adds _ _) (w .node .ensures) (c .before .next .given .1)
-          (omega (arith, nodes-long _ _ _ (l .inv .2 .read))),
+      w .node .kept .1 .1 .1 .0 ∙ l .inv .1,
+      turn-reads (addNode _ _) _ (l .n) (l .inv .2) (readNode _ _) (node-adds _ _ _) (w .node .ensures) (c .before .next .given .1)
+          (omega (arith, nodes-long _ _ _ _ (l .inv .2 .read))),
     )
 
 same-length-2 : tie.Need-same-length-2 Inv-loop μ-loop

@@ -44,7 +44,7 @@ returns-2 c =
     let m = next-is (w .all-nodes .ensures) (k .end .given .1) in
     let a = w .before .before .before in (
       sym (k .end .given .1) ∙ w .all-nodes .ensures .answer,
-      table-copied (a .args .count) (m .read) (all-long _ _ _ (m .read)) (a .args .local .now) (a .args .table .now) (m .stands) (omega arith) (c .before .copy .ensures),
+      table-copied (a .args .count) (m .read) (all-long _ _ _ _ (m .read)) (a .args .local .now) (a .args .table .now) (m .stands) (omega arith) (c .before .copy .ensures),
     )
 
 pub nodes-into-spec : {M : Type 1} → statement M

@@ -1,4 +1,5 @@
-use Rattle.evaluation.proofs.Groups.{const-result, reduced-right, reduce-uses, mixed-range, mixed-uses, where-uses, rest-moves, moves-use, first-right}
+use native.Mathlib.Omega.{arith}
+use Rattle.evaluation.proofs.Groups.{const-result, reduced-right, reduce-reads, mixed-range, mixed-reads, where-reads, rest-moves, rest-new, moves-read, first-right}
 use borrow.Author.Needs.{needs}
 use Rattle.evaluation.proofs.eval_node.Statement.{statement}
 use Rattle.evaluation.proofs.eval_node.Tie as tie
@@ -29,7 +30,7 @@ returns-2 : tie.Need-returns-2
 returns-2 c = λ o reads. c .before .before .before .eval-param .ensures o (reads .input (c .before .before .before .before .before .before .if2 .taken))
 
 eval-reduced-requires : tie.Need-eval-reduced-requires
-eval-reduced-requires c κs = let p = c .before .before .before .before .before .before .before in let x = p .args .x in let q = p .pre in (reduced-right x _ _ _ _ (q .right) (c .before .before .if3 .taken), q .room, q .first (reduce-uses (x .op) (c .before .before .if3 .taken)), q .small-first (reduce-uses (x .op) (c .before .before .if3 .taken)))
+eval-reduced-requires c κs = let p = c .before .before .before .before .before .before .before in let x = p .args .x in let q = p .pre in (reduced-right x _ _ _ _ (q .right) (c .before .before .if3 .taken), q .room, q .first (reduce-reads x (c .before .before .if3 .taken)), q .small-first (reduce-reads x (c .before .before .if3 .taken)))
 
 same-length-5 : tie.Need-same-length-5
 same-length-5 c = search needs
@@ -38,10 +39,10 @@ same-length-6 : tie.Need-same-length-6
 same-length-6 c = search needs
 
 returns-3 : tie.Need-returns-3
-returns-3 c = λ o reads. c .before .before .before .eval-reduced .ensures o (reads .first (reduce-uses _ (c .before .before .before .before .before .before .if3 .taken)))
+returns-3 c = λ o reads. c .before .before .before .eval-reduced .ensures o (reads .first (reduce-reads _ (c .before .before .before .before .before .before .if3 .taken)))
 
 eval-mixed-requires : tie.Need-eval-mixed-requires
-eval-mixed-requires c κs = let p = c .before .before .before .before .before .before .before .before in let x = p .args .x in let q = p .pre in let m = mixed-range (x .op) (c .before .before .if4 .taken) in let e = mixed-uses (x .op) (m .0) (m .1) in (m .0, m .1, q .right, q .room, q .small-first (e .0), q .small-second (e .1), q .first (e .0), q .second (e .1), λ w. q .third (where-uses (x .op) w))
+eval-mixed-requires c κs = let p = c .before .before .before .before .before .before .before .before in let x = p .args .x in let q = p .pre in let m = mixed-range (x .op) (c .before .before .if4 .taken) in let e = mixed-reads x (m .0) (m .1) in (m .0, m .1, q .right, q .room, q .small-first (e .0), q .small-second (e .1), q .first (e .0), q .second (e .1), λ w. q .third (where-reads x w))
 
 same-length-7 : tie.Need-same-length-7
 same-length-7 c = search needs
@@ -50,10 +51,10 @@ same-length-8 : tie.Need-same-length-8
 same-length-8 c = search needs
 
 returns-4 : tie.Need-returns-4
-returns-4 c = let x = c .before .before .before .before .before .before .before .before .before .before .before .before .args .x in let m = mixed-range (x .op) (c .before .before .before .before .before .before .if4 .taken) in let e = mixed-uses (x .op) (m .0) (m .1) in λ o reads. c .before .before .before .eval-mixed .ensures o (reads .first (e .0)) (reads .second (e .1)) (λ w. reads .third (where-uses (x .op) w))
+returns-4 c = let x = c .before .before .before .before .before .before .before .before .before .before .before .before .args .x in let m = mixed-range (x .op) (c .before .before .before .before .before .before .if4 .taken) in let e = mixed-reads x (m .0) (m .1) in λ o reads. c .before .before .before .eval-mixed .ensures o (reads .first (e .0)) (reads .second (e .1)) (λ w. reads .third (where-reads x w))
 
-eval-moved-requires : tie.Need-eval-moved-requires
-eval-moved-requires c κs = let p = c .before .before .before .before .before .before .before .before in let x = p .args .x in let q = p .pre in let m = rest-moves (x .op) (q .right .known) (c .before .before .before .before .before .if1 .left) (c .before .before .before .before .if2 .left) (c .before .before .before .if3 .left) (c .before .before .if4 .left) in (m, first-right x _ _ _ _ (q .right) m, q .room, q .first (moves-use (x .op) m))
+eval-new-requires : tie.Need-eval-new-requires
+eval-new-requires c κs = let p = c .before .before .before .before .before .before .before .before .before in let q = p .pre in (rest-new (p .args .x .op) (q .right .known) (c .before .before .if5 .taken), q .right, q .room, q .first, q .second, q .third)
 
 same-length-9 : tie.Need-same-length-9
 same-length-9 c = search needs
@@ -62,7 +63,19 @@ same-length-10 : tie.Need-same-length-10
 same-length-10 c = search needs
 
 returns-5 : tie.Need-returns-5
-returns-5 c = let p = c .before .before .before .before .before .before .before .before .before .before .before .before in let m = rest-moves (p .args .x .op) (p .pre .right .known) (c .before .before .before .before .before .before .before .before .before .if1 .left) (c .before .before .before .before .before .before .before .before .if2 .left) (c .before .before .before .before .before .before .before .if3 .left) (c .before .before .before .before .before .before .if4 .left) in λ o reads. c .before .before .before .eval-moved .ensures o (reads .first (moves-use (p .args .x .op) m))
+returns-5 c = λ o reads. c .before .before .before .eval-new .ensures o (reads .first) (reads .second) (reads .third)
+
+eval-moved-requires : tie.Need-eval-moved-requires
+eval-moved-requires c κs = let p = c .before .before .before .before .before .before .before .before .before in let x = p .args .x in let q = p .pre in let m = rest-moves (x .op) (q .right .known) (c .before .before .before .before .before .before .if1 .left) (c .before .before .before .before .before .if2 .left) (c .before .before .before .before .if3 .left) (c .before .before .before .if4 .left) (omega (arith, c .before .before .if5 .left)) in (m, first-right x _ _ _ _ (q .right) m, q .room, q .first (moves-read x m))
+
+same-length-11 : tie.Need-same-length-11
+same-length-11 c = search needs
+
+same-length-12 : tie.Need-same-length-12
+same-length-12 c = search needs
+
+returns-6 : tie.Need-returns-6
+returns-6 c = let p = c .before .before .before .before .before .before .before .before .before .before .before .before .before in let m = rest-moves (p .args .x .op) (p .pre .right .known) (c .before .before .before .before .before .before .before .before .before .before .if1 .left) (c .before .before .before .before .before .before .before .before .before .if2 .left) (c .before .before .before .before .before .before .before .before .if3 .left) (c .before .before .before .before .before .before .before .if4 .left) (omega (arith, c .before .before .before .before .before .before .if5 .left)) in λ o reads. c .before .before .before .eval-moved .ensures o (reads .first (moves-read (p .args .x) m))
 
 pub eval-node-spec : {M : Type 1} → statement M
 eval-node-spec =
@@ -84,7 +97,11 @@ eval-node-spec =
     same-length-7
     same-length-8
     returns-4
-    eval-moved-requires
+    eval-new-requires
     same-length-9
     same-length-10
-    returns-5)
+    returns-5
+    eval-moved-requires
+    same-length-11
+    same-length-12
+    returns-6)

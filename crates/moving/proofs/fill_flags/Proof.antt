@@ -8,10 +8,10 @@ use Rattle.moving.proofs.fill_flags.Statement.{statement}
 use Rattle.moving.proofs.fill_flags.Tie as tie
 
 abbrev Inv-loop : tie.InvT-loop
-Inv-loop flags₀ n to i₀ flags i = (i ≤ n) × (length flags ≡ length flags₀) × (flags ≡ store flags₀ to i (λ (j : ℕ). 0))
+Inv-loop flags₀ n to flag i₀ flags i = (i ≤ n) × (length flags ≡ length flags₀) × (flags ≡ store flags₀ to i (λ (j : ℕ). flag))
 
 abbrev μ-loop : tie.MeasureT-loop
-μ-loop flags₀ n to i₀ flags i = n - i
+μ-loop flags₀ n to flag i₀ flags i = n - i
 
 loop-holds : tie.Need-loop-holds Inv-loop μ-loop
 loop-holds c = (search needs, refl, store-none _ _ _)

@@ -18,11 +18,15 @@ returns c =
     let e = wrong-length (c .before .before .before .before .args .table .now) (c .before .before .before .before .args .bytes .now) (off _ (c .before .before .length-right .ensures) (c .before .if1 .taken)) in
     (answer-refused e (c .refused .ensures), bytes-kept e _)
 
-slice-aggregate-groups : tie.Need-slice-aggregate-groups
-slice-aggregate-groups c = search needs
+slice-aggregate-opening : tie.Need-slice-aggregate-opening
+slice-aggregate-opening c = search needs
 
-groups-requires : tie.Need-groups-requires
-groups-requires c κs = search needs
+opening-requires : tie.Need-opening-requires
+opening-requires c κs =
+    let t = c .before .before .before .before .args .table .now in
+    let count = counted t (on _ (c .before .before .length-right .ensures) (c .before .if1 .left)) in
+    let l = length-replicate {A = ℕ} 11780 0 in
+    (count .is, count .fits, count .few, omega (arith, l))
 
 slice-aggregate-nodes : tie.Need-slice-aggregate-nodes
 slice-aggregate-nodes c = search needs
@@ -33,8 +37,8 @@ nodes-requires c κs =
     let buffer = c .before .before .before .before .before .before .before .args .bytes .now in
     let right = on _ (c .before .before .before .before .before .length-right .ensures) (c .before .before .before .before .if1 .left) in
     let count = counted t right in
-    let w = c .before .before .groups .ensures in
-    let l = length-replicate {A = ℕ} 11778 0 in
+    let w = c .before .before .opening .ensures in
+    let l = length-replicate {A = ℕ} 11780 0 in
     (count .fits, nodes-room _ w l (count .few))
 
 enum-known-number : tie.Need-enum-known-number
@@ -55,9 +59,9 @@ returns-2 c =
     let buffer = c .before .before .before .before .before .before .before .before .before .before .before .before .before .before .args .bytes .now in
     let right = on _ (c .before .before .before .before .before .before .before .before .before .before .before .before .length-right .ensures) (c .before .before .before .before .before .before .before .before .before .before .before .if1 .left) in
     let count = counted t right in
-    let w = c .before .before .before .before .before .before .before .before .before .groups .ensures in
-    let l = length-replicate {A = ℕ} 11778 0 in
-    let first = first-is _ _ (count .few) w (omega (arith, l)) in
+    let w = c .before .before .before .before .before .before .before .before .before .opening .ensures in
+    let l = length-replicate {A = ℕ} 11780 0 in
+    let first = first-is w (omega (arith, l)) in
     let m = next-is _ _ (c .before .before .before .before .before .before .nodes .ensures) (c .before .before .before .end .given .1) in
     let e = no-room t (length buffer) right count first m (c .before .if2 .taken) in
     (answer-refused e (c .refused3 .ensures), bytes-kept e _)
@@ -71,9 +75,9 @@ copy-requires c κs =
     let buffer = c .before .before .before .before .before .before .before .before .before .before .before .before .before .before .before .args .bytes .now in
     let right = on _ (c .before .before .before .before .before .before .before .before .before .before .before .before .before .length-right .ensures) (c .before .before .before .before .before .before .before .before .before .before .before .before .if1 .left) in
     let count = counted t right in
-    let w = c .before .before .before .before .before .before .before .before .before .before .groups .ensures in
-    let l = length-replicate {A = ℕ} 11778 0 in
-    let first = first-is _ _ (count .few) w (omega (arith, l)) in
+    let w = c .before .before .before .before .before .before .before .before .before .before .opening .ensures in
+    let l = length-replicate {A = ℕ} 11780 0 in
+    let first = first-is w (omega (arith, l)) in
     let m = next-is _ _ (c .before .before .before .before .before .before .before .nodes .ensures) (c .before .before .before .before .end .given .1) in
     (m .inside, search needs)
 
@@ -86,9 +90,9 @@ returns-3 c =
     let buffer = c .before .before .before .before .before .before .before .before .before .before .before .before .before .args .bytes .now in
     let right = on _ (c .before .before .before .before .before .before .before .before .before .before .before .length-right .ensures) (c .before .before .before .before .before .before .before .before .before .before .if1 .left) in
     let count = counted t right in
-    let w = c .before .before .before .before .before .before .before .before .groups .ensures in
-    let l = length-replicate {A = ℕ} 11778 0 in
-    let first = first-is _ _ (count .few) w (omega (arith, l)) in
+    let w = c .before .before .before .before .before .before .before .before .opening .ensures in
+    let l = length-replicate {A = ℕ} 11780 0 in
+    let first = first-is w (omega (arith, l)) in
     let e = nodes-refused t (length buffer) right count first (stop-is _ _ (c .before .before .before .before .before .nodes .ensures) (c .before .before .number .given .1)) in
     (answer-refused e (c .refused2 .ensures), bytes-kept e _)
 
@@ -101,9 +105,9 @@ returns-4 c =
     let buffer = c .before .before .before .before .before .before .before .before .before .before .before .before .before .before .before .before .before .before .before .args .bytes .now in
     let right = on _ (c .before .before .before .before .before .before .before .before .before .before .before .before .before .before .before .before .before .length-right .ensures) (c .before .before .before .before .before .before .before .before .before .before .before .before .before .before .before .before .if1 .left) in
     let count = counted t right in
-    let w = c .before .before .before .before .before .before .before .before .before .before .before .before .before .before .groups .ensures in
-    let l = length-replicate {A = ℕ} 11778 0 in
-    let first = first-is _ _ (count .few) w (omega (arith, l)) in
+    let w = c .before .before .before .before .before .before .before .before .before .before .before .before .before .before .opening .ensures in
+    let l = length-replicate {A = ℕ} 11780 0 in
+    let first = first-is w (omega (arith, l)) in
     let m = next-is _ _ (c .before .before .before .before .before .before .before .before .before .before .before .nodes .ensures) (c .before .before .before .before .before .before .before .before .end .given .1) in
     let e = packed t (length buffer) right count first m (c .before .before .before .before .before .before .if2 .left) in
     (answer-packed e (m .long) (c .accepted .ensures), bytes-packed e (m .long) _ _ (m .stand) (c .before .before .before .copy .ensures))
@@ -111,4 +115,4 @@ returns-4 c =
 pub pack-spec : {M : Type 1} → statement M
 pack-spec =
     tie.close
-    (tie.spec length-right-requires refused-requires returns slice-aggregate-groups groups-requires slice-aggregate-nodes nodes-requires enum-known-number refused-requires-2 enum-known-end refused-requires-3 returns-2 slice-aggregate-copy copy-requires accepted-requires returns-3 same-length returns-4)
+    (tie.spec length-right-requires refused-requires returns slice-aggregate-opening opening-requires slice-aggregate-nodes nodes-requires enum-known-number refused-requires-2 enum-known-end refused-requires-3 returns-2 slice-aggregate-copy copy-requires accepted-requires returns-3 same-length returns-4)

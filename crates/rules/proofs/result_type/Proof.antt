@@ -22,5 +22,9 @@ returns-5 c = typed _ _ _ (search needs) (search needs) (search result-type-laws
 returns-6 : tie.Need-returns-6
 returns-6 c = typed _ _ _ (search needs) (search needs) (search result-type-laws)
 
+returns-7 : tie.Need-returns-7
+returns-7 c = typed _ _ _ (search needs) (search needs) (search result-type-laws)
+
 pub result-type-spec : {M : Type 1} → statement M
-result-type-spec = tie.close (tie.spec returns returns-2 returns-3 returns-4 returns-5 returns-6)
+result-type-spec =
+    tie.close (tie.spec returns returns-2 returns-3 returns-4 returns-5 returns-6 returns-7)

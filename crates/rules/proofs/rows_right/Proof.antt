@@ -1,6 +1,6 @@
 use Rattle.laws.proofs.Machine.{R-is, fit-at}
 use mathlib.Core.Path.{_∙_}
-use Rattle.rules.proofs.RowRule.{rows-const, rows-param, rows-permute, rows-flip, rows-shape, rows-offset, rows-any, rows-reduce, rows-load, left-of-four}
+use Rattle.rules.proofs.RowRule.{rows-const, rows-param, rows-permute, rows-flip, rows-shape, rows-offset, rows-any, rows-reduce, rows-load, rows-none, rows-stack, left-of-four}
 use borrow.Author.Needs.{needs}
 use Rattle.rules.proofs.rows_right.Statement.{statement}
 use Rattle.rules.proofs.rows_right.Tie as tie
@@ -66,7 +66,19 @@ device-named-requires-2 : tie.Need-device-named-requires-2
 device-named-requires-2 c κs = search needs
 
 returns-9 : tie.Need-returns-9
-returns-9 c = c .device-named2 .ensures ∙ rows-load _ _ _ (c .before .before .if7 .left) (c .before .if8 .left) (c .before .before .before .before .before .before .before .before .before .before .before .before .pre)
+returns-9 c = c .device-named2 .ensures ∙ rows-load _ _ _ (c .before .if9 .taken)
+
+returns-10 : tie.Need-returns-10
+returns-10 c = rows-none _ _ _ (c .before .before .before .if7 .left) (c .before .before .if8 .left) (c .before .if9 .left) (c .if10 .taken)
+
+size-of-word-requires-2 : tie.Need-size-of-word-requires-2
+size-of-word-requires-2 c κs = search needs
+
+returns-11 : tie.Need-returns-11
+returns-11 c =
+    let x = c .before .before .before .before .before .before .before .before .before .before .before .before .before .before .before .before .args .x in
+    let number = R-is (fit-at (x .number) (c .before .before .before .before .before .before .before .before .before .before .before .before .before .struct-told .given .1 .1 .1 .1 .1 .0 .1)) in
+    rows-stack x _ _ (c .before .before .before .if10 .left) (c .before .before .before .before .before .before .before .before .before .before .before .before .before .before .before .before .pre) (rw number at (c .before .size-of-word2 .ensures))
 
 pub rows-right-spec : {M : Type 1} → statement M
 rows-right-spec =
@@ -91,4 +103,7 @@ rows-right-spec =
     is-flag-row-requires-2
     returns-8
     device-named-requires-2
-    returns-9)
+    returns-9
+    returns-10
+    size-of-word-requires-2
+    returns-11)

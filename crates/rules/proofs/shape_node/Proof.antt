@@ -5,6 +5,8 @@ use borrow.Author.Needs.{needs}
 use Rattle.plan.specs.declared.Node.{Node}
 use Rattle.rules.specs.Rules.{rowsRight}
 use Rattle.rules.specs.Code.{viewOf}
+use Rattle.shapes.proofs.Stacking.{stack-rank}
+use Rattle.laws.proofs.Booleans.{on}
 use Rattle.rules.proofs.RowRule.{permute-rule}
 use Rattle.rules.proofs.Judging.{rows-tested, rows-held, breaks-5, breaks-6, breaks-7, breaks-8-shapes, breaks-8-count, fits-all, fits-count}
 use Rattle.rules.proofs.shape_node.Statement.{statement}
@@ -109,7 +111,7 @@ result-shape-requires c κs =
     let p12 = p11 .before in
     let rows = rows-held (p12 .args .x) (p12 .args .params) (viewOf (p12 .args .a)) (viewOf (p12 .args .b)) (viewOf (p12 .args .c)) _ (p8 .type-named .ensures) (p7 .if1 .left) _ (p6 .types-agree .ensures) (p5 .if2 .left)
     _ (ranked (p12 .args .x) (p12 .args .params) (p3 .rows-right .ensures) (p4 .rank .ensures)) (p2 .if3 .left) in
-    (rows-tested (p12 .args .x) _ _ rows _ (p12 .pre .0 .known) (p12 .pre .1), permute-rule _ _ _ rows)
+    (rows-tested (p12 .args .x) _ _ rows _ (p12 .pre .0 .known) (p12 .pre .1), (permute-rule _ _ _ rows, λ q. stack-rank (p12 .args .x) _ _ _ q (on _ (p1 .shapes-agree .ensures) (c .if4 .left))))
 
 count-requires : tie.Need-count-requires
 count-requires c κs = search needs

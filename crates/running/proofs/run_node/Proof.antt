@@ -81,7 +81,7 @@ array-read-eval-node c = let s = c .before .before .before .before .before .befo
 eval-node-requires : tie.Need-eval-node-requires
 eval-node-requires c κs =
     let turn = c .before .before .before .before .before .before .before .before .before .before .before .before .before .before .before .before .before .pre in
-    let picked = three-picked (c .before .before .before .before .before .before .before .before .before .before .before .before .before .before .before .before .before .pre) (c .before .before .before .before .before .before .before .before .before .before .before .before .before .before .node-at .ensures) (c .before .before .before .before .before .before .before .before .before .before .before .before .before .used-mask .ensures) _ _ _ (c .before .before .before .before .before .before .before .before .before .before .before .before .source-place .ensures .1) (c .before .before .before .before .before .before .before .before .before .before .before .source-place2 .ensures .1) (c .before .before .before .before .before .before .before .before .before .before .source-place3 .ensures .1) (c .before .before .before .before .before .before .before .before .operand .ensures) (c .before .before .before .before .before .before .operand2 .ensures) (c .before .before .before .before .operand3 .ensures) in
+    let picked = three-picked (c .before .before .before .before .before .before .before .before .before .before .before .before .before .before .before .before .before .pre) (c .before .before .before .before .before .before .before .before .before .before .before .before .before .before .node-at .ensures) _ _ _ (c .before .before .before .before .before .before .before .before .before .before .before .before .source-place .ensures .1) (c .before .before .before .before .before .before .before .before .before .before .before .source-place2 .ensures .1) (c .before .before .before .before .before .before .before .before .before .before .source-place3 .ensures .1) (c .before .before .before .before .before .before .before .before .operand .ensures) (c .before .before .before .before .before .before .operand2 .ensures) (c .before .before .before .before .operand3 .ensures) in
     ready turn picked (c .before .before .before .before .before .before .before .before .before .before .before .before .before .before .node-at .ensures) (extents-are turn _) (start-is turn)
 
 input-size-requires : tie.Need-input-size-requires
@@ -101,7 +101,7 @@ returns c =
     let s = c .before .before .before .before .before .before .before .before .before .before .before .before .before .before .before .before .before .before .before .before .before .before in
     let turn = s .pre in
     let node = c .before .before .before .before .before .before .before .before .before .before .before .before .before .before .before .before .before .before .before .node-at .ensures in
-    let picked = three-picked (c .before .before .before .before .before .before .before .before .before .before .before .before .before .before .before .before .before .before .before .before .before .before .pre) (c .before .before .before .before .before .before .before .before .before .before .before .before .before .before .before .before .before .before .before .node-at .ensures) (c .before .before .before .before .before .before .before .before .before .before .before .before .before .before .before .before .before .before .used-mask .ensures) _ _ _ (c .before .before .before .before .before .before .before .before .before .before .before .before .before .before .before .before .before .source-place .ensures .1) (c .before .before .before .before .before .before .before .before .before .before .before .before .before .before .before .before .source-place2 .ensures .1) (c .before .before .before .before .before .before .before .before .before .before .before .before .before .before .before .source-place3 .ensures .1) (c .before .before .before .before .before .before .before .before .before .before .before .before .before .operand .ensures) (c .before .before .before .before .before .before .before .before .before .before .before .operand2 .ensures) (c .before .before .before .before .before .before .before .before .before .operand3 .ensures) in
+    let picked = three-picked (c .before .before .before .before .before .before .before .before .before .before .before .before .before .before .before .before .before .before .before .before .before .before .pre) (c .before .before .before .before .before .before .before .before .before .before .before .before .before .before .before .before .before .before .before .node-at .ensures) _ _ _ (c .before .before .before .before .before .before .before .before .before .before .before .before .before .before .before .before .before .source-place .ensures .1) (c .before .before .before .before .before .before .before .before .before .before .before .before .before .before .before .before .source-place2 .ensures .1) (c .before .before .before .before .before .before .before .before .before .before .before .before .before .before .before .source-place3 .ensures .1) (c .before .before .before .before .before .before .before .before .before .before .before .before .before .operand .ensures) (c .before .before .before .before .before .before .before .before .before .before .before .operand2 .ensures) (c .before .before .before .before .before .before .before .before .before .operand3 .ensures) in
     (taken-is turn node _ (c .input-size .ensures), leaves turn picked node (extents-are turn _) (start-is turn) (c .before .before .before .before .eval-node .ensures))
 
 pub run-node-spec : {M : Type 1} → statement M

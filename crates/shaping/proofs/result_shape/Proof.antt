@@ -7,7 +7,7 @@ returns : tie.Need-returns
 returns c = search result-laws
 
 permuted-requires : tie.Need-permuted-requires
-permuted-requires c κs = c .before .before .before .pre .1 (c .if2 .taken)
+permuted-requires c κs = c .before .before .before .pre .1 .0 (c .if2 .taken)
 
 returns-2 : tie.Need-returns-2
 returns-2 c = search result-laws
@@ -45,8 +45,16 @@ reduced-requires c κs = search needs
 returns-8 : tie.Need-returns-8
 returns-8 c = search result-laws
 
+stacked-requires : tie.Need-stacked-requires
+stacked-requires c κs =
+    let pre = c .before .before .before .before .before .before .before .before .before .before .pre in
+    (c .if9 .taken, (pre .0, pre .1 .1 (c .if9 .taken)))
+
 returns-9 : tie.Need-returns-9
-returns-9 c = search result-laws
+returns-9 c = c .stacked .ensures _ _
+
+returns-10 : tie.Need-returns-10
+returns-10 c = search result-laws
 
 pub result-shape-spec : {M : Type 1} → statement M
 result-shape-spec =
@@ -66,4 +74,6 @@ result-shape-spec =
     returns-7
     reduced-requires
     returns-8
-    returns-9)
+    stacked-requires
+    returns-9
+    returns-10)

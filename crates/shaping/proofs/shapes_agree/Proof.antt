@@ -33,8 +33,14 @@ can-broadcast-requires-3 c κs = search needs
 returns-5 : tie.Need-returns-5
 returns-5 c = search agree-laws
 
+stack-agrees-requires : tie.Need-stack-agrees-requires
+stack-agrees-requires c κs = search needs
+
 returns-6 : tie.Need-returns-6
-returns-6 c = search agree-laws
+returns-6 c = search needs
+
+returns-7 : tie.Need-returns-7
+returns-7 c = search agree-laws
 
 pub shapes-agree-spec : {M : Type 1} → statement M
 shapes-agree-spec =
@@ -50,4 +56,6 @@ shapes-agree-spec =
     broadcast-requires
     can-broadcast-requires-3
     returns-5
-    returns-6)
+    stack-agrees-requires
+    returns-6
+    returns-7)

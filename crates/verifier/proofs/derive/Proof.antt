@@ -111,8 +111,8 @@ judge-requires c κs =
     let before = before-of t (turn .i) x q rules in
     let so = turn .inv .2 in
     let small = small-of (turn .inv .0) (p16 .pre .1) in
-    let va = source-view t (turn .i) (turn .records) (turn .params) (turn .total) so small _ (x .op) (p11 .used-mask .result) 1 (x .source1) (p8 .source-place .result) (p4 .source-record .result) masked (omega arith) (before .0) (p8 .source-place .ensures .1) (p4 .source-record .ensures) in
-    (masked, few-of va (source-few t (turn .i) (turn .records) (turn .params) (turn .total) so small (x .op) 1 (x .source1)))
+    let va = source-view t (turn .i) (turn .records) (turn .params) (turn .total) so small _ x 1 (x .source1) (p8 .source-place .result) (p4 .source-record .result) (before .0) (p8 .source-place .ensures .1) (p4 .source-record .ensures) in
+    (masked, few-of va (source-few t (turn .i) (turn .records) (turn .params) (turn .total) so small x 1 (x .source1)))
 
 enum-known-judged : tie.Need-enum-known-judged Inv-loop μ-loop
 enum-known-judged c = search needs
@@ -148,13 +148,12 @@ returns-2 c =
     let x = p17 .node-at .result in
     let q = p17 .node-at .ensures in
     let rules = p15 .early .ensures .meets (p14 .if1 .left) in
-    let masked = masked-of t (turn .i) x q rules (p16 .used-mask .result) (p16 .used-mask .ensures) in
     let before = before-of t (turn .i) x q rules in
     let so = turn .inv .2 in
     let small = small-of (turn .inv .0) (p21 .pre .1) in
-    let va = source-view t (turn .i) (turn .records) (turn .params) (turn .total) so small _ (x .op) (p16 .used-mask .result) 1 (x .source1) (p13 .source-place .result) (p9 .source-record .result) masked (omega arith) (before .0) (p13 .source-place .ensures .1) (p9 .source-record .ensures) in
-    let vb = source-view t (turn .i) (turn .records) (turn .params) (turn .total) so small _ (x .op) (p16 .used-mask .result) 2 (x .source2) (p12 .source-place2 .result) (p7 .source-record2 .result) masked (omega arith) (before .1) (p12 .source-place2 .ensures .1) (p7 .source-record2 .ensures) in
-    let vc = source-view t (turn .i) (turn .records) (turn .params) (turn .total) so small _ (x .op) (p16 .used-mask .result) 3 (x .source3) (p11 .source-place3 .result) (p5 .source-record3 .result) masked (omega arith) (before .2) (p11 .source-place3 .ensures .1) (p5 .source-record3 .ensures) in
+    let va = source-view t (turn .i) (turn .records) (turn .params) (turn .total) so small _ x 1 (x .source1) (p13 .source-place .result) (p9 .source-record .result) (before .0) (p13 .source-place .ensures .1) (p9 .source-record .ensures) in
+    let vb = source-view t (turn .i) (turn .records) (turn .params) (turn .total) so small _ x 2 (x .source2) (p12 .source-place2 .result) (p7 .source-record2 .result) (before .1) (p12 .source-place2 .ensures .1) (p7 .source-record2 .ensures) in
+    let vc = source-view t (turn .i) (turn .records) (turn .params) (turn .total) so small _ x 3 (x .source3) (p11 .source-place3 .result) (p5 .source-record3 .result) (before .2) (p11 .source-place3 .ensures .1) (p5 .source-record3 .ensures) in
     let j = subst (λ (r : Judged). Judges x (turn .params) (viewOf (p9 .source-record .result)) (viewOf (p7 .source-record2 .result)) (viewOf (p5 .source-record3 .result)) r) (p2 .judged .given .1) (p4 .judge .ensures) in
     let number = p2 .judged .given .0 .0 in
     derives-stop t (p21 .args .count) (turn .records) number (turn .i) (so .size) (stop-late t (turn .i) (turn .records) (turn .params) (turn .total) so small x q _ _ _ va vb vc rules (p21 .args .count) (p18 .loop-test .taken) number j) (c .ended2 .ensures)
@@ -261,13 +260,12 @@ loop-again c =
     let x = p17 .node-at .result in
     let q = p17 .node-at .ensures in
     let rules = p15 .early .ensures .meets (p14 .if1 .left) in
-    let masked = masked-of t (turn .i) x q rules (p16 .used-mask .result) (p16 .used-mask .ensures) in
     let before = before-of t (turn .i) x q rules in
     let so = turn .inv .2 in
     let small = small-of (turn .inv .0) (p21 .pre .1) in
-    let va = source-view t (turn .i) (turn .records) (turn .params) (turn .total) so small _ (x .op) (p16 .used-mask .result) 1 (x .source1) (p13 .source-place .result) (p9 .source-record .result) masked (omega arith) (before .0) (p13 .source-place .ensures .1) (p9 .source-record .ensures) in
-    let vb = source-view t (turn .i) (turn .records) (turn .params) (turn .total) so small _ (x .op) (p16 .used-mask .result) 2 (x .source2) (p12 .source-place2 .result) (p7 .source-record2 .result) masked (omega arith) (before .1) (p12 .source-place2 .ensures .1) (p7 .source-record2 .ensures) in
-    let vc = source-view t (turn .i) (turn .records) (turn .params) (turn .total) so small _ (x .op) (p16 .used-mask .result) 3 (x .source3) (p11 .source-place3 .result) (p5 .source-record3 .result) masked (omega arith) (before .2) (p11 .source-place3 .ensures .1) (p5 .source-record3 .ensures) in
+    let va = source-view t (turn .i) (turn .records) (turn .params) (turn .total) so small _ x 1 (x .source1) (p13 .source-place .result) (p9 .source-record .result) (before .0) (p13 .source-place .ensures .1) (p9 .source-record .ensures) in
+    let vb = source-view t (turn .i) (turn .records) (turn .params) (turn .total) so small _ x 2 (x .source2) (p12 .source-place2 .result) (p7 .source-record2 .result) (before .1) (p12 .source-place2 .ensures .1) (p7 .source-record2 .ensures) in
+    let vc = source-view t (turn .i) (turn .records) (turn .params) (turn .total) so small _ x 3 (x .source3) (p11 .source-place3 .result) (p5 .source-record3 .result) (before .2) (p11 .source-place3 .ensures .1) (p5 .source-record3 .ensures) in
     let j = subst (λ (r : Judged). Judges x (turn .params) (viewOf (p9 .source-record .result)) (viewOf (p7 .source-record2 .result)) (viewOf (p5 .source-record3 .result)) r) (p2 .judged2 .given .1) (p4 .judge .ensures) in
     let n = p2 .judged2 .given .0 .1 .0 in
     let few = judged-few x (turn .params) (viewOf (p9 .source-record .result)) (viewOf (p7 .source-record2 .result)) (viewOf (p5 .source-record3 .result)) _ _ j in

@@ -3,17 +3,17 @@ use borrow.Author.Needs.{needs}
 use Rattle.verifier.proofs.source_record.Statement.{statement}
 use Rattle.verifier.proofs.source_record.Tie as tie
 
-uses-word-requires : tie.Need-uses-word-requires
-uses-word-requires c κs = search needs
+reads-requires : tie.Need-reads-requires
+reads-requires c κs = search needs
 
 returns : tie.Need-returns
-returns c = rw (← (c .before .uses-word .ensures), c .if1 .taken) refl
+returns c = rw (← (c .before .reads .ensures), c .if1 .taken) refl
 
 blank-requires : tie.Need-blank-requires
 blank-requires c κs = search needs
 
 returns-2 : tie.Need-returns-2
-returns-2 c = rw (← (c .before .before .uses-word .ensures), c .before .if1 .left) (c .blank .ensures)
+returns-2 c = rw (← (c .before .before .reads .ensures), c .before .if1 .left) (c .blank .ensures)
 
 pub source-record-spec : {M : Type 1} → statement M
-source-record-spec = tie.close (tie.spec uses-word-requires returns blank-requires returns-2)
+source-record-spec = tie.close (tie.spec reads-requires returns blank-requires returns-2)
