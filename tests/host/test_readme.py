@@ -172,10 +172,11 @@ def typed(tally, shell, block, count):
 
 
 def test_sessions(tally, page, shell):
-    """The two sessions of the shell."""
+    """The three sessions of the shell."""
     listing = typed(tally, shell, page.take('$ cat'), 3)[-1]
     tally.same('build/list', shell.type('build/list <small.plan'), (0, listing, ''))
     typed(tally, shell, page.take('$ build/lup unpack'), 3)
+    typed(tally, shell, page.take('$ grep'), 3)
 
 
 def test_assembler(tally, page, shell):
