@@ -4,8 +4,9 @@
 # make fuzz   every export on random and mutated inputs, FUZZ_SECONDS long (60); FUZZ_SEED chooses them
 # make demo   builds as make does, then the main job on example data
 # make bench  speed, as ratios measured in one run
+# make bench-beside OTHER=ARCHIVE   unpack, pack and check of this build and of another one, in one run at each of four places in memory
 # make install, make uninstall   programs, header, libraries, pkg-config file and man pages under PREFIX (/usr/local); DESTDIR: a folder to put in front of it
-.PHONY: all test linked fuzz demo bench install uninstall expect_directories clean
+.PHONY: all test linked fuzz demo bench bench-beside install uninstall expect_directories clean
 .DELETE_ON_ERROR:
 
 CC = gcc
@@ -98,6 +99,15 @@ bench: build/bench build/bench_run build/join.plan $(SHARED)
 	@build/bench_run
 	@/usr/bin/python3 bench/numpy_join.py build/join.plan $(SHARED)
 	@/usr/bin/python3 bench/python_run.py
+
+# Two builds of the library in one program: the calls of the archive OTHER get names with other_ in front. Made anew each time, since OTHER may be another one.
+bench-beside: $(ARCHIVE)
+	@test -f '$(OTHER)' || { echo "make: OTHER=ARCHIVE names the other build" >&2; exit 1; }
+	@ld -r -o build/other.o --whole-archive '$(OTHER)'
+	@objcopy $$(nm -g --defined-only build/other.o | sed -n 's/.* T \(.*\)/--redefine-sym \1=other_\1/p') build/other.o
+	@for padding in 0 16 32 48; do \
+	    $(CC) $(CFLAGS) -O3 -DOTHER -DPADDING=$$padding -Iinclude -o build/bench_beside bench/bench.c bench/plain.c $(ARCHIVE) build/other.o && \
+	    build/bench_beside || exit 1; echo; done
 
 PREFIX = /usr/local
 BINDIR = $(PREFIX)/bin

@@ -1,8 +1,11 @@
-/* Time per call of the library and of plain C, in one run and on the same bytes; their answers and buffers are compared. */
+/* Time per call of the library and of plain C, in one run and on the same bytes; their answers and buffers are compared. With OTHER
+ * defined, also of another build of the library, whose names have other_ in front. PADDING is a number of bytes in front of the code that is
+ * timed: where a loop lies in its cache lines can move a row by a tenth and more. */
 #define _POSIX_C_SOURCE 200809L
 #include "lupetzarin.h"
 #include "plain.h"
 
+#include <math.h>
 #include <stdio.h>
 #include <string.h>
 #include <time.h>
@@ -12,6 +15,15 @@
 #define WORDS 17
 #define MOST_BYTES 11778
 #define ROUNDS 200
+
+#ifndef PADDING
+#define PADDING 0
+#endif
+#if PADDING
+#define TEXT(number) #number
+#define SKIP(bytes) __asm__(".text\n\t.skip " TEXT(bytes) ", 0x90")
+SKIP(PADDING);
+#endif
 
 typedef struct {
     uint8_t bytes[MOST_BYTES];
@@ -23,6 +35,27 @@ static int64_t lup_table[NODES * WORDS], plain_table[NODES * WORDS];
 static int64_t tables[PLANS][NODES * WORDS], lup_derived[NODES * 8], plain_derived[NODES * 8];
 static uint8_t lup_bytes[MOST_BYTES], plain_bytes[MOST_BYTES];
 static volatile uint64_t sink;
+
+/* A build of the library. */
+typedef struct {
+    lup_answer (*unpack)(const uint8_t *bytes, size_t length, int64_t *table, size_t room);
+    lup_answer (*pack)(const int64_t *table, size_t words, uint8_t *bytes, size_t room);
+    lup_answer (*check)(const int64_t *table, size_t words, int64_t *derived, size_t room);
+} library;
+
+#ifdef OTHER
+lup_answer other_lup_unpack(const uint8_t *bytes, size_t length, int64_t *table, size_t room);
+lup_answer other_lup_pack(const int64_t *table, size_t words, uint8_t *bytes, size_t room);
+lup_answer other_lup_check(const int64_t *table, size_t words, int64_t *derived, size_t room);
+#endif
+
+static const library builds[] = {
+    {lup_unpack, lup_pack, lup_check},
+#ifdef OTHER
+    {other_lup_unpack, other_lup_pack, other_lup_check},
+#endif
+};
+enum { BUILDS = sizeof builds / sizeof *builds };
 
 /* The words beside the operation that each operation uses, by its number. */
 static const unsigned used_words[21] = {2, 9, 5, 5, 5, 5, 9, 9, 2, 2, 2, 2, 2, 2, 2, 2, 2, 2, 3, 6, 2};
@@ -40,17 +73,27 @@ static void put_number(packed_plan *p, uint64_t n) {
     p->bytes[p->length++] = (uint8_t)n;
 }
 
-/* Any operations; of eight words five take one byte, two take up to two and one takes up to five. */
-static void mixed_plan(packed_plan *p) {
+/* Any operations, whose words are below a limit each. */
+static void any_plan(packed_plan *p, uint64_t (*limit)(void)) {
     for (unsigned i = 0; i < NODES; i++) {
         uint64_t op = random_bits() % 21;
         put_number(p, op);
         for (unsigned k = 0; k < used_words[op]; k++) {
-            uint64_t kind = random_bits() % 8;
-            put_number(p, random_bits() % (kind < 5 ? 128u : kind < 7 ? 16384u : (uint64_t)1 << 35));
+            uint64_t below = limit();
+            put_number(p, random_bits() % below);
         }
     }
 }
+
+/* Of eight words five take one byte, two take up to two and one takes up to five. */
+static uint64_t any_limit(void) {
+    uint64_t kind = random_bits() % 8;
+    return kind < 5 ? 128u : kind < 7 ? 16384u : (uint64_t)1 << 35;
+}
+static uint64_t one_byte(void) { return 128; }
+
+static void mixed_plan(packed_plan *p) { any_plan(p, any_limit); }
+static void short_plan(packed_plan *p) { any_plan(p, one_byte); }
 
 /* One operation, whose words take as many bits each. */
 static void uniform_plan(packed_plan *p, unsigned op, unsigned bits) {
@@ -83,9 +126,9 @@ static double now(void) {
     return (double)t.tv_sec * 1e6 + (double)t.tv_nsec * 1e-3;
 }
 
-static double lup_unpack_round(void) {
+static double unpack_round(const library *build) {
     double start = now();
-    for (unsigned i = 0; i < PLANS; i++) sink += lup_unpack(plans[i].bytes, plans[i].length, lup_table, NODES * WORDS).count;
+    for (unsigned i = 0; i < PLANS; i++) sink += build->unpack(plans[i].bytes, plans[i].length, lup_table, NODES * WORDS).count;
     return now() - start;
 }
 
@@ -96,11 +139,11 @@ static double plain_unpack_round(void) {
 }
 
 /* Whether both accept every plan and write the same table. */
-static int unpack_agrees(void) {
+static int unpack_agrees(const library *build) {
     for (unsigned i = 0; i < PLANS; i++) {
         memset(lup_table, 1, sizeof lup_table);
         memset(plain_table, 2, sizeof plain_table);
-        lup_answer a = lup_unpack(plans[i].bytes, plans[i].length, lup_table, NODES * WORDS);
+        lup_answer a = build->unpack(plans[i].bytes, plans[i].length, lup_table, NODES * WORDS);
         plain_answer b = plain_unpack(plans[i].bytes, plans[i].length, plain_table, NODES * WORDS);
         if (a.number != 0 || a.place != 0 || a.count != NODES) return 0;
         if (a.number != b.number || a.place != b.place || a.count != b.count) return 0;
@@ -109,32 +152,42 @@ static int unpack_agrees(void) {
     return 1;
 }
 
-static void row(const char *what, size_t length, double (*lup)(void), double (*plain)(void)) {
-    double best_lup = lup(), best_plain = plain();
-    for (unsigned r = 1; r < ROUNDS; r++) {
-        double a = lup(), b = plain();
-        if (a < best_lup) best_lup = a;
-        if (b < best_plain) best_plain = b;
-    }
-    printf("| %s | %zu | %.2f | %.2f | %.2f |\n", what, length, best_lup / PLANS, best_plain / PLANS, best_lup / best_plain);
+static int all_agree(int (*agrees)(const library *)) {
+    for (unsigned k = 0; k < BUILDS; k++)
+        if (!agrees(&builds[k])) return 0;
+    return 1;
 }
 
-/* One row of the table; 0 where library and plain C differ. */
-static int unpack_row(const char *what, void (*body)(packed_plan *)) {
-    size_t length = pack_plans(body);
-    if (!unpack_agrees()) {
+static double least(double a, double b) { return a < b ? a : b; }
+
+/* One row of the table; 0 where a build of the library and plain C differ. */
+static int row(const char *what, size_t length, int (*agrees)(const library *), double (*lup)(const library *), double (*plain)(void)) {
+    double best[BUILDS], best_plain = HUGE_VAL;
+    if (!all_agree(agrees)) {
         printf("bench: %s: library and plain C differ\n", what);
         return 0;
     }
-    row(what, length, lup_unpack_round, plain_unpack_round);
+    for (unsigned k = 0; k < BUILDS; k++) best[k] = HUGE_VAL;
+    for (unsigned r = 0; r < ROUNDS; r++) {
+        for (unsigned k = 0; k < BUILDS; k++) best[k] = least(best[k], lup(&builds[k]));
+        best_plain = least(best_plain, plain());
+    }
+    printf("| %s | %zu | %.2f | %.2f | %.2f |", what, length, best[0] / PLANS, best_plain / PLANS, best[0] / best_plain);
+    for (unsigned k = 1; k < BUILDS; k++) printf(" %.2f | %.2f | %.2f |", best[k] / PLANS, best[k] / best_plain, best[0] / best[k]);
+    printf("\n");
     return 1;
+}
+
+static int unpack_row(const char *what, void (*body)(packed_plan *)) {
+    size_t length = pack_plans(body);
+    return row(what, length, unpack_agrees, unpack_round, plain_unpack_round);
 }
 
 /* ---- packing ---- */
 
-static double lup_pack_round(void) {
+static double pack_round(const library *build) {
     double start = now();
-    for (unsigned i = 0; i < PLANS; i++) sink += lup_pack(tables[i], NODES * WORDS, lup_bytes, MOST_BYTES).count;
+    for (unsigned i = 0; i < PLANS; i++) sink += build->pack(tables[i], NODES * WORDS, lup_bytes, MOST_BYTES).count;
     return now() - start;
 }
 
@@ -145,11 +198,11 @@ static double plain_pack_round(void) {
 }
 
 /* Whether both accept every table, write the bytes that it was unpacked from, and leave the bytes past them. */
-static int pack_agrees(void) {
+static int packs(const library *build) {
     for (unsigned i = 0; i < PLANS; i++) {
         memset(lup_bytes, 1, sizeof lup_bytes);
         memset(plain_bytes, 1, sizeof plain_bytes);
-        lup_answer a = lup_pack(tables[i], NODES * WORDS, lup_bytes, MOST_BYTES);
+        lup_answer a = build->pack(tables[i], NODES * WORDS, lup_bytes, MOST_BYTES);
         plain_answer b = plain_pack(tables[i], NODES * WORDS, plain_bytes, MOST_BYTES);
         if (a.number != 0 || a.place != 0 || a.count != plans[i].length) return 0;
         if (a.number != b.number || a.place != b.place || a.count != b.count) return 0;
@@ -159,12 +212,12 @@ static int pack_agrees(void) {
 }
 
 /* Whether both refuse the first table alike where a word of any node is another. */
-static int pack_refusals_agree(void) {
+static int refuses(const library *build) {
     static const int64_t words[] = {-1, 1, 21, 24, -17179869185, 17179869184, INT64_MIN, INT64_MAX};
     for (unsigned k = 0; k < NODES * WORDS; k++) {
         int64_t kept = tables[0][k];
         tables[0][k] = words[k % (sizeof words / sizeof *words)];
-        lup_answer a = lup_pack(tables[0], NODES * WORDS, lup_bytes, MOST_BYTES);
+        lup_answer a = build->pack(tables[0], NODES * WORDS, lup_bytes, MOST_BYTES);
         plain_answer b = plain_pack(tables[0], NODES * WORDS, plain_bytes, MOST_BYTES);
         tables[0][k] = kept;
         if (a.number != b.number || a.place != b.place || a.count != b.count) return 0;
@@ -172,15 +225,12 @@ static int pack_refusals_agree(void) {
     return 1;
 }
 
+static int pack_agrees(const library *build) { return packs(build) && refuses(build); }
+
 static int pack_row(const char *what, void (*body)(packed_plan *)) {
     size_t length = pack_plans(body);
     for (unsigned i = 0; i < PLANS; i++) plain_unpack(plans[i].bytes, plans[i].length, tables[i], NODES * WORDS);
-    if (!pack_agrees() || !pack_refusals_agree()) {
-        printf("bench: %s: library and plain C differ\n", what);
-        return 0;
-    }
-    row(what, length, lup_pack_round, plain_pack_round);
-    return 1;
+    return row(what, length, pack_agrees, pack_round, plain_pack_round);
 }
 
 /* ---- the check ---- */
@@ -209,9 +259,9 @@ static void add_tables(void) {
         for (unsigned n = 0; n < NODES; n++) memcpy(tables[i] + n * WORDS, n < 5 ? params[n] : nodes[8], sizeof params[0]);
 }
 
-static double lup_check_round(void) {
+static double check_round(const library *build) {
     double start = now();
-    for (unsigned i = 0; i < PLANS; i++) sink += lup_check(tables[i], NODES * WORDS, lup_derived, NODES * 8).number;
+    for (unsigned i = 0; i < PLANS; i++) sink += build->check(tables[i], NODES * WORDS, lup_derived, NODES * 8).number;
     return now() - start;
 }
 
@@ -222,11 +272,11 @@ static double plain_check_round(void) {
 }
 
 /* Whether both accept every plan and derive the same words. */
-static int check_agrees(void) {
+static int check_agrees(const library *build) {
     for (unsigned i = 0; i < PLANS; i++) {
         memset(lup_derived, 1, sizeof lup_derived);
         memset(plain_derived, 2, sizeof plain_derived);
-        lup_answer a = lup_check(tables[i], NODES * WORDS, lup_derived, NODES * 8);
+        lup_answer a = build->check(tables[i], NODES * WORDS, lup_derived, NODES * 8);
         plain_answer b = plain_check(tables[i], NODES * WORDS, plain_derived, NODES * 8);
         if (a.number != 0 || a.place != 0 || a.number != b.number || a.place != b.place) return 0;
         if (memcmp(lup_derived, plain_derived, sizeof lup_derived) != 0) return 0;
@@ -236,18 +286,15 @@ static int check_agrees(void) {
 
 static int check_row(const char *what, void (*body)(void)) {
     body();
-    if (!check_agrees()) {
-        printf("bench: %s: library and plain C differ\n", what);
-        return 0;
-    }
-    row(what, sizeof tables[0], lup_check_round, plain_check_round);
-    return 1;
+    return row(what, sizeof tables[0], check_agrees, check_round, plain_check_round);
 }
 
 int main(void) {
-    printf("%d plans of %d nodes, best of %d rounds, microseconds a plan\n\n", PLANS, NODES, ROUNDS);
-    printf("| call | bytes a plan | library | plain C | ratio |\n|---|---|---|---|---|\n");
+    printf("%d plans of %d nodes, best of %d rounds, microseconds a plan; %d bytes of padding\n\n", PLANS, NODES, ROUNDS, PADDING);
+    printf("| call | bytes a plan | library | plain C | ratio |%s\n", BUILDS > 1 ? " other build | its ratio | library to it |" : "");
+    printf("|---|---|---|---|---|%s\n", BUILDS > 1 ? "---|---|---|" : "");
     int agree = unpack_row("unpack, any operations and words", mixed_plan);
+    agree &= unpack_row("unpack, any operations, words of one byte", short_plan);
     agree &= unpack_row("unpack, ADD, words of one byte", add_plan);
     agree &= unpack_row("unpack, PAD, words of one byte", short_pad_plan);
     agree &= unpack_row("unpack, PAD, words of five bytes", long_pad_plan);

@@ -62,6 +62,32 @@ static void unpack_examples(void) {
     expect(answers(lup_unpack(five, sizeof five, NULL, 0), 14, 0, 0), "no table: refused 14");
 }
 
+/* CONSTs of type 2 whose number ends the bytes, about the end of one byte, of two and of five: the number, or the refusal at its first byte. */
+static void number_examples(void) {
+    static const struct {
+        uint8_t bytes[8];
+        size_t n;
+        uint64_t refused;
+        int64_t number;
+        const char *what;
+    } ends[] = {
+        {{1, 0, 4, 0x7F}, 4, 0, -64, "7F: -64"},
+        {{1, 0, 4, 0x80, 0x01}, 5, 0, 64, "80 01: 64"},
+        {{1, 0, 4, 0x80, 0x00}, 5, 21, 0, "80 00: refused 21 at 3"},
+        {{1, 0, 4, 0x80}, 4, 20, 0, "80 and no more: refused 20 at 3"},
+        {{1, 0, 4, 0xFF, 0x7F}, 5, 0, -8192, "FF 7F: -8192"},
+        {{1, 0, 4, 0xFF, 0xFF, 0xFF, 0xFF, 0x0F}, 8, 0, -2147483648LL, "FF FF FF FF 0F: -2147483648"},
+        {{1, 0, 4, 0xFF, 0xFF, 0xFF, 0xFF, 0x7F}, 8, 0, -17179869184LL, "FF FF FF FF 7F: -17179869184"},
+    };
+    int64_t table[ROOM];
+    for (size_t k = 0; k < sizeof ends / sizeof *ends; k++) {
+        fill(table);
+        lup_answer a = lup_unpack(ends[k].bytes, ends[k].n, table, ROOM);
+        if (ends[k].refused) expect(answers(a, ends[k].refused, 3, 0) && stays(table, 0), ends[k].what);
+        else expect(answers(a, 0, 0, 1) && holds_const(table, ends[k].number), ends[k].what);
+    }
+}
+
 static void fill_bytes(uint8_t *bytes) {
     for (size_t k = 0; k < ROOM; k++) bytes[k] = (uint8_t)(100 + k);
 }
@@ -282,6 +308,7 @@ static void edition_examples(void) {
 int main(void) {
     expect(lup_version() == LUP_VERSION, "the version of the header");
     unpack_examples();
+    number_examples();
     pack_examples();
     check_examples();
     i16_examples();

@@ -81,6 +81,8 @@ def fixed_bytes():
         data = cases.pack(sum(map(cases.small_node, ops), []))
         yield from (data[:cut] for cut in range(len(data) + 1))
         yield from (data[:at] + bytes([end]) + data[at + 1:] for at in range(len(data)) for end in BYTE_ENDS)
+    for operations in (model.LOAD + 1, cases.OPERATIONS):
+        yield from cases.other_numbers(sum(map(cases.small_node, range(operations)), []))
     for number in NUMBER_ENDS:
         count = cases.number_bytes(number)
         padded = count[:-1] + bytes([count[-1] + 128, 0])

@@ -345,12 +345,13 @@ static size_t pack(uint8_t *to, const int64_t *words, size_t count) {
     return n;
 }
 
-/* Some of the bytes changed, cut off or moved. */
+/* Some of the bytes changed, to the ends of a group of seven bits half of the time, cut off or moved. */
 static size_t spoil(uint8_t *bytes, size_t n) {
+    static const uint8_t ends[4] = {0x00, 0x7f, 0x80, 0xff};
     for (size_t k = below(4); k > 0 && n > 0; k--) {
         size_t at = below(n);
         if (one_in(3)) n = at;
-        else if (one_in(2)) bytes[at] = (uint8_t)any();
+        else if (one_in(2)) bytes[at] = one_in(2) ? ends[below(4)] : (uint8_t)any();
         else memmove(bytes + at, bytes + at + 1, --n - at);
     }
     return n;

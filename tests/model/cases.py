@@ -1330,6 +1330,38 @@ def packs(count, seed):
     yield from chosen(rng, several, count, lambda case: case.note)
 
 
+# -------------------------------------------- numbers of one byte and of more
+
+# 127, 128, 0 in two bytes, 16383, 2^32 − 1 and 2^35 − 1.
+WRITTEN_ENDS = [bytes.fromhex(text) for text in ('7f', '8001', '8000', 'ff7f', 'ffffffff0f', 'ffffffff7f')]
+
+
+def other_numbers(table):
+    """Bytes, each once: the file of a table with each of its numbers in turn, from the count on, written as each of
+    those; with the bytes after it, as the end of the bytes, and a byte short of that."""
+    parts = [*map(number_bytes, packed_numbers(table))]
+    count = 2 if parts[0] == b'\0' else 0
+    found = {}
+    for at in range(count, len(parts)):
+        before, after = b''.join(parts[:at]), b''.join(parts[at + 1:])
+        for written in WRITTEN_ENDS:
+            found |= dict.fromkeys((before + written + after, before + written, before + written[:-1]))
+    return [*found]
+
+
+def short_numbers(count, seed):
+    """By unpack, with room for one node, and by unpack and check in one call, in files of each edition."""
+    rng = Random(f'short numbers {seed}')
+    several = []
+    for table in (const(2, 5), apply(FILL, 0, 0)):
+        for data in other_numbers(table):
+            several += [Case('unpack', (data, 17), 'another number'), Case('unpack_check', (data,), 'another number')]
+    counts = [pack(const(2, 5) * (nodes - 1) + last) for nodes in (127, 128) for last in (const(2, 5), apply(KNOWN, 0))]
+    several += [Case('unpack_check', (data[:len(data) - cut] + bytes(more),), 'another count')
+                for data in counts for cut, more in ((0, 0), (1, 0), (0, 1))]
+    yield from chosen(rng, several, count, lambda case: case.call)
+
+
 GROUPS = {
     'valid plans': (valid_plans, 240), 'near misses': (near_misses, 150),
     'rule pairs': (rule_pairs, 150), 'edge words': (edge_words, 95),
@@ -1337,7 +1369,7 @@ GROUPS = {
     'buffers': (buffer_cases, 65), 'run inputs': (run_inputs, 100),
     'packed bytes': (packed_bytes, 190), 'packed plans': (packed_plans, 20),
     'lookups': (lookups, 108), 'listings': (listings, 30), 'by hand': (hand_cases, 340),
-    'packs': (packs, 800), 'second edition': (second_edition, 340),
+    'packs': (packs, 800), 'second edition': (second_edition, 340), 'short numbers': (short_numbers, 260),
 }
 
 

@@ -509,13 +509,13 @@ class GeneratedCases(Compared):
     def test_counts(self):
         self.same(list(cases.all_cases(1)) == self.every, True, 'deterministic')
         self.same(list(cases.all_cases(2)) == self.every, False, 'seeded')
-        self.same(2400 <= len(self.every) <= 2610, True, len(self.every))
+        self.same(2650 <= len(self.every) <= 2850, True, len(self.every))
         asked = {(case.call, repr(case.args)) for case in self.every}
         self.same(len(asked), len(self.every), 'no case twice')
-        for call, least in (('check', 900), ('run', 250), ('unpack', 230), ('lookup', 150),
-                            ('unpack_check', 80), ('listing', 25), ('pack', 550)):
+        for call, least in (('check', 900), ('run', 250), ('unpack', 330), ('lookup', 150),
+                            ('unpack_check', 180), ('listing', 25), ('pack', 550)):
             self.same(sum(c.call == call for c in self.every) >= least, True, call)
-        for name in ('by hand', 'packs', 'second edition'):
+        for name in ('by hand', 'packs', 'second edition', 'short numbers'):
             count = cases.GROUPS[name][1]
             several = [list(cases.group(name, most, 1)) for most in (count, 10 * count)]
             self.same(several[0] == several[1], True, f'no case is left out: {name}')

@@ -6,7 +6,7 @@ them, without a slip: they change nothing.
 """
 
 from contextlib import contextmanager
-from itertools import combinations
+from itertools import combinations, product
 from math import prod
 from types import SimpleNamespace
 
@@ -980,6 +980,44 @@ def number_by(groups=5, last_0=lambda group: group > 0, base=128, ended=lambda f
     return {'read_number': wrong}
 
 
+def alone_by(taken, number=lambda byte: byte, after=1, where=lambda data, first: True):
+    """read_number that takes some first bytes for a whole number, at some places."""
+    def wrong(data, first):
+        if first < len(data) and taken(data[first]) and where(data, first):
+            return number(data[first]), first + after
+        return RIGHT.read_number(data, first)
+    return {'read_number': wrong}
+
+
+def count_place(data):
+    return 2 if [*data[:2]] == SECOND_EDITION else 0
+
+
+ALONE_SLIPS = (
+    ('128 too', {'taken': lambda byte: byte <= 128}),
+    ('128 too, as 0', {'taken': lambda byte: byte <= 128, 'number': lambda byte: byte % 128}),
+    ('128 for 127', {'taken': lambda byte: byte == 127, 'number': lambda byte: 128}),
+    ('every byte', {'taken': lambda byte: True}),
+    ('every byte, of seven bits', {'taken': lambda byte: True, 'number': lambda byte: byte % 128}),
+    ('127, and a byte more', {'taken': lambda byte: byte == 127, 'after': 2}),
+)
+# By the byte of the count, the byte that a number begins at, and the last byte.
+ALONE_PLACES = (
+    ('the count', lambda start, first, last: first == start),
+    ('the middle', lambda start, first, last: start < first < last),
+    ('the last byte', lambda start, first, last: start < first == last),
+)
+
+
+def numbers_alone():
+    """Numbers of one byte that are none, or are another, in files of each edition."""
+    for (name, slip), (place, test), (edition, start) in product(ALONE_SLIPS, ALONE_PLACES,
+                                                                 (('first', 0), ('second', 2))):
+        def where(data, first, test=test, start=start):
+            return count_place(data) == start and test(start, first, len(data) - 1)
+        yield f'alone is {name}: {place}, {edition} edition', alone_by(**slip, where=where)
+
+
 def node_by(limits=None, place=lambda first, after: first, op_of=lambda op: op, turn=1):
     """read_node of other operations, by the highest of the edition; with another place of 24 or order of words."""
     def wrong(data, first, highest):
@@ -1570,13 +1608,14 @@ CONTROLS = (
     ('operands', {'element_value': read_at_0((*BINARY, WHERE, FILL), [0, 1, 2], lambda *_: False)}),
     ('range of i16', i16_range_of(CONST, -32767, 32767)), ('flags', flags_seen(lambda d, value, flag: flag)),
     ('rule 12', {'verdict': over(lambda counts: counts)}), ('reduction', reduced()), ('inputs', scanned()),
-    ('run', run_by()), ('check', check_by()), ('lookup', lookup_by()), ('number', number_by()), ('node', node_by()),
-    ('unpack', unpack_by()), ('edition', edition_by()), ('written number', groups_by()), ('written node', written_by()),
-    ('pack', pack_by()),
-    ('range of pack', range_of(LEAST, GREATEST)), ('rules of pack', pack_rule(0, None)),
+    ('run', run_by()), ('check', check_by()), ('lookup', lookup_by()), ('number', number_by()),
+    ('number alone', alone_by(lambda byte: byte < 128)), ('node', node_by()), ('unpack', unpack_by()),
+    ('edition', edition_by()), ('written number', groups_by()), ('written node', written_by()),
+    ('pack', pack_by()), ('range of pack', range_of(LEAST, GREATEST)), ('rules of pack', pack_rule(0, None)),
 )
 FAMILIES = (movements, shapes, broadcasts, orders, words, types, devices, numbers, rows, limits, ranges, bounds, values,
-            reductions, inputs, no_readings, runs, checks, lookups, packed, packs, new_operations, editions)
+            reductions, inputs, no_readings, runs, checks, lookups, packed, numbers_alone, packs, new_operations,
+            editions)
 ONE_SET_ONLY = (
     ('agreement', listings, 'the program vectors lists nothing'),
     ('vectors', bytes_wide, 'the runs of the tables have less than 200 elements'),

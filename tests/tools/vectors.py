@@ -1096,6 +1096,82 @@ SECOND_ORDER = [
     unpack_refused('14 before 24 in the first edition', '01 16 00', 14, 0, room=16),
 ]
 
+# ---------------------------------------- numbers of one byte and of more
+# (02) "a short way for a number whose first byte is below 128"; "Its answers, places and refusals remain those of today"
+
+# The greatest number of one byte, the least and the greatest of two, the greatest of 32 bits and of five bytes; each
+# as the word that it is.
+WRITTEN = (('7F', -64), ('80 01', 64), ('FF 7F', -8192), ('FF FF FF FF 0F', -2147483648),
+           ('FF FF FF FF 7F', -17179869184))
+PADDED = '80 00'
+CONSTS_126 = '00 04 0A' * 126
+
+
+def at_both_places(text, word):
+    """A word that is written by the bytes, in the middle of them and at their end, in a file of each edition."""
+    name = f'{text} is the word {word}'
+    yield unpacks(f'{name}, in the middle', f'01 00 {text} 0A', 1, const(word, 5), room=17)
+    yield unpacks(f'{name}, in the middle of the second edition', f'00 02 01 17 00 {text} 00 04', 1,
+                  node(STACK, {2: word, 5: 2}), room=17)
+    yield unpacks(f'{name}, at the end', f'01 00 04 {text}', 1, const(I16, word), room=17)
+    yield unpacks(f'{name}, at the end of the second edition', f'00 02 01 16 {text}', 1, apply(KNOWN, word), room=17)
+
+
+SHORT_UNPACKED = [case for text, word in WRITTEN for case in at_both_places(text, word)]
+SHORT_REFUSED = [
+    # 21 "a later last byte is 0", "its first byte": the count, an operation, a word and the last word
+    *(unpack_refused(f'{PADDED}: {name}', text, 21, place, room=17) for name, text, place in (
+        ('all that there is', PADDED, 0), ('count', PADDED + '00 04 0A', 0), ('operation', '01' + PADDED + '04 0A', 1),
+        ('word', '01 00' + PADDED + '0A', 2), ('last word', '01 00 04' + PADDED, 3),
+        ('all after 00 02', '00 02' + PADDED, 2), ('count after 00 02', '00 02' + PADDED + '16 00', 2),
+        ('operation after 00 02 01', '00 02 01' + PADDED + '00', 3), ('word of FILL', '00 02 01 15' + PADDED + '00', 4),
+        ('last word of FILL', '00 02 01 15 00' + PADDED, 5), ('last word of KNOWN', '00 02 01 16' + PADDED, 4))),
+    # 23 "count not 1..256", place 0
+    *(unpack_refused(f'count {text}{name}', before + text + after, 23, 0, room=17) for text in ('FF 7F', 'FF FF FF FF 0F')
+      for name, before, after in ((' alone', '', ''), ('', '', '00 04 0A'), (' alone after 00 02', '00 02', ''),
+                                  (' after 00 02', '00 02', '16 00'))),
+    # 24 "operation not 0..20", "its byte"; (02) "for second edition files, rule 24 the limit is 23"
+    *(unpack_refused(f'operation {text}, {name}', before + text + after, 24, place, room=34)
+      for text in ('7F', '80 01', 'FF 7F', 'FF FF FF FF 0F')
+      for name, before, after, place in (('at the end', '01', '', 1), ('of the second node', '02 00 04 0A', '04 0A', 4),
+                                         ('at the end of the second edition', '00 02 01', '', 3),
+                                         ('of the second node of the second edition', '00 02 02 16 00', '00', 5))),
+    # 20 "bytes end before or inside a number", "its first byte": after 7F another number has to come, after 80 or FF
+    # another byte of this one
+    *(unpack_refused(f'the end after {text}: {name}', before + text, 20, place, room=17)
+      for text, name, before, place in (
+          ('7F', 'type of a CONST', '01 00', 3), ('7F', 'first word of FILL', '00 02 01 15', 5),
+          ('80', 'count', '', 0), ('80', 'operation', '01', 1), ('80', 'word', '01 00', 2),
+          ('80', 'last word', '01 00 04', 3), ('80', 'count after 00 02', '00 02', 2),
+          ('80', 'operation after 00 02 01', '00 02 01', 3), ('80', 'word of KNOWN', '00 02 01 16', 4),
+          ('FF', 'last word', '01 00 04', 3), ('FF', 'word of KNOWN', '00 02 01 16', 4),
+          ('FF FF FF FF', 'count', '', 0), ('FF FF FF FF', 'last word', '01 00 04', 3),
+          ('FF FF FF FF', 'count after 00 02', '00 02', 2), ('FF FF FF FF', 'word of KNOWN', '00 02 01 16', 4))),
+]
+SHORT_ONE_CALL = [
+    # "the answer is the node count": 127 in one byte and 128 in two, in a file of each edition
+    in_one_call('127 nodes', bytes.fromhex('7F' + CONSTS_126 + '00 04 0A'), 127),
+    in_one_call('128 nodes', bytes.fromhex('80 01' + CONSTS_126 + '00 04 0A' * 2), 128),
+    in_one_call('127 nodes of the second edition', bytes.fromhex('00 02 7F' + CONSTS_126 + '16 00'), 127),
+    in_one_call('128 nodes of the second edition', bytes.fromhex('00 02 80 01' + CONSTS_126 + '00 04 0A 16 00'), 128),
+    # 20 "bytes end before .. a number" and 22 "bytes left over": a node of three bytes too few or too many
+    in_one_call('126 nodes of 127', bytes.fromhex('7F' + CONSTS_126), code(20, 379)),
+    in_one_call('128 nodes for 127', bytes.fromhex('7F' + CONSTS_126 + '00 04 0A' * 2), code(22, 382)),
+    in_one_call('127 nodes of 128', bytes.fromhex('80 01' + CONSTS_126 + '00 04 0A'), code(20, 383)),
+    in_one_call('129 nodes for 128', bytes.fromhex('80 01' + CONSTS_126 + '00 04 0A' * 3), code(22, 386)),
+    in_one_call('127 nodes and 16 left over', bytes.fromhex('00 02 7F' + CONSTS_126 + '16 00 16'), code(22, 383)),
+    in_one_call('127 nodes of 128 in the second edition', bytes.fromhex('00 02 80 01' + CONSTS_126 + '16 00'),
+                code(20, 384)),
+    # "A CONST number .. outside its type is 11", −8192 of i16 is inside; 5 of a type, 4 of a source
+    *(in_one_call(f'{text} as an i16', bytes.fromhex('01 00 04' + text), answer)
+      for text, answer in (('7F', 1), ('80 01', 1), ('FF 7F', 1), ('FF FF FF FF 0F', code(11, 0)),
+                           ('FF FF FF FF 7F', code(11, 0)))),
+    *(in_one_call(f'{text} as {name}', bytes.fromhex(before + text + after), answer) for text, _ in WRITTEN
+      for name, before, after, answer in (('a type', '01 00', '0A', code(5, 0)), ('a source', '01 14', '02', code(4, 0)),
+                                          ('a source of KNOWN', '00 02 02 00 04 0A 16', '', code(4, 1)))),
+    *(in_one_call(f'in one call: {case.name}', case.source, code(*case.answer[:2])) for case in SHORT_REFUSED),
+]
+
 # ---------------------------------------------------- unpack and check in one
 
 GREATEST = bytes.fromhex('80 02') + bytes.fromhex('06' + 'FF FF FF FF 7F' * 9) * 256
@@ -1175,8 +1251,8 @@ def pack_case(example):
 
 
 PACKS = [pack_case(example) for example in pack_examples.EXAMPLES]
-CASES = [*UNPACKED, *BYTES_REFUSED, *BYTE_ORDER, *SECOND_UNPACKED, *SECOND_REFUSED, *SECOND_ORDER, *CHECKS, *ONE_CALL,
-         *packed_too(CHECKS), *RUNS, *LOOKUPS, *PACKS]
+CASES = [*UNPACKED, *BYTES_REFUSED, *BYTE_ORDER, *SECOND_UNPACKED, *SECOND_REFUSED, *SECOND_ORDER, *SHORT_UNPACKED,
+         *SHORT_REFUSED, *CHECKS, *ONE_CALL, *SHORT_ONE_CALL, *packed_too(CHECKS), *RUNS, *LOOKUPS, *PACKS]
 
 # ------------------------------------------------------------------ the files
 

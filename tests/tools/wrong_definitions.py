@@ -211,6 +211,15 @@ refuted h =
     let own = h .device (param 0 i16 (pos 0) (pos 9) []) 0 [] 1 refl (omega arith) (record { le = tt }) (λ j k a b c d e f. inl refl) in
     never (ap natAbs (own .named (inl refl))) (λ e. absurd (omega (arith, e)))
 '''),
+    Wrong('128 is a number of one byte', 'codec/specs/Numbers.antt', 'cond (ltb byte 128)', 'cond (ltb byte 129)', 'UnpacksExactly', '''
+refuted h =
+    let read = h .number-accepted (128 ∷ 1 ∷ []) 0 (record { value = 128; next = 1 }) .0 refl in
+    alone (read .more) (read .after) (read .last)
+  where
+    alone : (more : ℕ) → 1 ≡ 0 + more + 1 → getD (128 ∷ 1 ∷ []) (0 + more) 0 < 128 → ⊥
+    alone zero e l = absurd (omega (arith, l))
+    alone (suc k) e l = absurd (omega (arith, e))
+'''),
     Wrong('bytes left over accepted', 'codec/specs/Plans.antt',
           'need (leb (length s) (u .next)) 22 (u .next)\n', 'need true 22 (u .next)\n', 'UnpacksExactly', '''
 refuted h =

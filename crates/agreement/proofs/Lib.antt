@@ -38,6 +38,11 @@ pub mod Table36
 pub mod Table37
 pub mod Table38
 pub mod Table39
+pub mod Table40
+pub mod Table41
+pub mod Table42
+pub mod Table43
+pub mod Table44
 pub mod Packs01
 pub mod Packs02
 pub mod Packs03

@@ -90,6 +90,22 @@ table39 =
     ∷ toUnpack (0 ∷ 2 ∷ 1 ∷ 22 ∷ 128 ∷ 0 ∷ []) 17 gives leaves (answer 21 4 0) (freshFrom 0 17)
     -- edition
     ∷ toUnpackCheck (0 ∷ 2 ∷ 1 ∷ 22 ∷ 128 ∷ 0 ∷ []) gives number 1376260
+    -- another number
+    ∷ toUnpack (127 ∷ 0 ∷ 4 ∷ 10 ∷ []) 17 gives leaves (answer 14 0 0) (freshFrom 0 17)
+    -- another number
+    ∷ toUnpackCheck (127 ∷ 0 ∷ 4 ∷ 10 ∷ []) gives number 1310724
+    -- another number
+    ∷ toUnpack (127 ∷ []) 17 gives leaves (answer 14 0 0) (freshFrom 0 17)
+    -- another number
+    ∷ toUnpackCheck (127 ∷ []) gives number 1310721
+    -- another number
+    ∷ toUnpack [] 17 gives leaves (answer 20 0 0) (freshFrom 0 17)
+    -- another number
+    ∷ toUnpackCheck [] gives number 1310720
+    -- another number
+    ∷ toUnpack (128 ∷ 1 ∷ 0 ∷ 4 ∷ 10 ∷ []) 17 gives leaves (answer 14 0 0) (freshFrom 0 17)
+    -- another number
+    ∷ toUnpackCheck (128 ∷ 1 ∷ 0 ∷ 4 ∷ 10 ∷ []) gives number 1310725
     ∷ []
 
 pub table39-agrees : Agree table39

@@ -55,6 +55,15 @@ facts =
     -- "or a later last byte is 0"; a first byte may be 0
     ∷ number (numberAt (9 ∷ 129 ∷ 0 ∷ []) 1) is number (refuse 21 1)
     ∷ number (numberAt (9 ∷ 0 ∷ []) 1) is read 0 2
+    -- (02) "a number whose first byte is below 128": 127 is one, at the end of the bytes and before it; a first byte of 128 is not
+    ∷ number (numberAt (9 ∷ 127 ∷ []) 1) is read 127 2
+    ∷ number (numberAt (127 ∷ 127 ∷ []) 0) is read 127 1
+    ∷ number (numberAt (9 ∷ 128 ∷ []) 1) is number (refuse 20 1)
+    ∷ number (numberAt (9 ∷ 128 ∷ 0 ∷ []) 1) is number (refuse 21 1)
+    ∷ number (numberAt (9 ∷ 128 ∷ 1 ∷ 9 ∷ []) 1) is read 128 3
+    ∷ number (numberAt (255 ∷ 127 ∷ 9 ∷ []) 0) is read 16383 2
+    ∷ number (numberAt (9 ∷ 255 ∷ 255 ∷ 255 ∷ 255 ∷ 15 ∷ []) 1) is read 4294967295 6
+    ∷ number (numberAt (9 ∷ 255 ∷ 255 ∷ 255 ∷ 255 ∷ 127 ∷ 9 ∷ []) 1) is read 34359738367 6
     -- "other words n are written as 2n, or −2n−1 below zero"
     ∷ word (wordOf 600) is word (pos 300)
     ∷ word (wordOf 1) is word (negsuc 0)

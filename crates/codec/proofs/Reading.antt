@@ -6,7 +6,7 @@ use mathlib.Core.List.{List}
 use native.Mathlib.Nat.{le-refl, mod-lt, pow-succ', one-le-pow, mul-le-mul-left}
 use native.Mathlib.Numerals.{sub-one}
 use native.Mathlib.Omega.{arith}
-use borrow.Author.Tests.{lt-ltb, le-ltb}
+use borrow.Author.Tests.{lt-ltb, le-ltb, eq-eqb, ne-eqb}
 use lib.Dec.{ltb, eqb, lit<}
 use lib.ListN.{length, getD}
 use Rattle.plan.specs.Answers.{Outcome, accepted, refused, refuse, andThen}
@@ -89,6 +89,11 @@ module _ (s : List ℕ) (from : ℕ) where
       by (accepted r) = let e : 0 + 1 * r .value ≡ r .value = omega arith in rw e
       by (refused r) = refl
 
+  -- after a first byte with its high bit
+  pub reach-second : {b : ℕ} → from < length s → b ≡ getD s from 0 → 128 ≤ b → Reached (b % 128) 128 (from + 1) 4
+  unfolding numberAt
+  reach-second {b} l is q = record { number = more-groups s from from b is l 5 (lit< tt) q; small = mod-lt b {m = 128} (lit< tt); room = omega arith }
+
   module _ {v scale at k : ℕ} (h : Reached v scale at k) where
     pub reach-none : k ≤ 0 → Broken 21 from ≡ numberOf (numberAt s from)
     unfolding numberOf
@@ -129,7 +134,20 @@ module _ (s : List ℕ) (from : ℕ) where
               room = room-next;
             }
 
-pub ruleset reach-laws = (reach-none, reach-end, reach-padded, reach-last)
+-- whether a byte after the first is a last byte of 0
+module _ (from at b : ℕ) where
+  pub last-zero : from < at → b ≡ 0 → (eqb b 0 && ltb from at) ≡ true
+  last-zero l z = simp (eq-eqb b 0 z, lt-ltb from at l)
+
+  pub last-other : (b ≡ 0 → ⊥) → (eqb b 0 && ltb from at) ≡ false
+  last-other z = simp (ne-eqb b 0 z)
+
+pub ruleset reach-laws = (reach-none, reach-end, reach-padded, reach-last, last-zero, last-other)
+
+-- no byte of a number
+pub no-byte : (s : List ℕ) (at : ℕ) → length s ≤ at → Broken 20 at ≡ numberOf (numberAt s at)
+unfolding numberAt numberOf
+no-byte s at l = rw (bytes-end s at at 5 (lit< tt) l)
 
 -- a number of one byte
 pub one-byte : (s : List ℕ) (at b : ℕ) → b ≡ getD s at 0 → at < length s → b < 128 → Value b (at + 1) ≡ numberOf (numberAt s at)

@@ -3,7 +3,7 @@ ghost use mathlib.Core.Path.{_≡_};
 ghost use mathlib.Core.Bool.{cond};
 ghost use mathlib.Core.List.{_++_};
 ghost use Prim.Native.Nat.{_+_, _*_, _≤_, _<_};
-ghost use lib.ListN.{length, take, drop};
+ghost use lib.ListN.{length, getD, take, drop};
 ghost use Rattle.codec.specs.Numbers.{numberAt, wordOf};
 ghost use Rattle.plan.specs.Operations.{operationCount, isNew, inFile};
 ghost use Rattle.codec.specs.Plans.{noneNew, readNode, unpack, unpackAnswer, tableAfter};
@@ -33,21 +33,22 @@ pub enum Opening {
     Fails(usize, usize),
 }
 
-// The number whose first byte is at `from`, group by group.
-fn groups(s: &[u8], from: usize) -> Number
+// The number at `from` whose first byte has its high bit: the groups after the first.
+fn groups(s: &[u8], from: usize, first: usize) -> Number
+    requires { ⌜ (from < length (now s)) × (first ≡ getD (now s) from 0) × (128 ≤ first) ⌝ }
     ensures { λ r. ⌜ r ≡ numberOf (numberAt (now (s .entry)) from) ⌝ }
 {
-    let mut value = 0;
-    let mut scale = 1;
-    let mut at = from;
-    let mut left: usize = 5;
+    let mut value = first % 128;
+    let mut scale = 128;
+    let mut at = from + 1;
+    let mut left: usize = 4;
     while 0 < left {
         if s.len() <= at {
             return Number::Broken(20, from);
         }
         let byte = wide(s[at]);
         if byte < 128 {
-            if (byte == 0) & (from < at) {
+            if byte == 0 {
                 return Number::Broken(21, from);
             }
             return Number::Value(value + scale * byte, at + 1);
@@ -71,13 +72,14 @@ fn wide(b: u8) -> usize
 pub fn number_at(s: &[u8], at: usize) -> Number
     ensures { λ r. ⌜ r ≡ numberOf (numberAt (now (s .entry)) at) ⌝ }
 {
-    if at < s.len() {
-        let first = wide(s[at]);
-        if first < 128 {
-            return Number::Value(first, at + 1);
-        }
+    if s.len() <= at {
+        return Number::Broken(20, at);
     }
-    groups(s, at)
+    let first = wide(s[at]);
+    if first < 128 {
+        return Number::Value(first, at + 1);
+    }
+    groups(s, at, first)
 }
 
 // The word that a packed number stands for.

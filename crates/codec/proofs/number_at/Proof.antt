@@ -1,7 +1,10 @@
 use borrow.Author.Needs.{needs}
-use Rattle.codec.proofs.Reading.{one-byte}
+use Rattle.codec.proofs.Reading.{no-byte, one-byte}
 use Rattle.codec.proofs.number_at.Statement.{statement}
 use Rattle.codec.proofs.number_at.Tie as tie
+
+returns : tie.Need-returns
+returns c = search no-byte
 
 shared-slice-read-wide : tie.Need-shared-slice-read-wide
 shared-slice-read-wide c = search needs
@@ -9,19 +12,19 @@ shared-slice-read-wide c = search needs
 wide-requires : tie.Need-wide-requires
 wide-requires c κs = search needs
 
-add-t9 : tie.Need-add-t9
-add-t9 c = search needs
+add-t8 : tie.Need-add-t8
+add-t8 c = search needs
 
-returns : tie.Need-returns
-returns c = search one-byte
+returns-2 : tie.Need-returns-2
+returns-2 c = search one-byte
 
 groups-requires : tie.Need-groups-requires
 groups-requires c κs = search needs
 
-returns-2 : tie.Need-returns-2
-returns-2 c = search needs
+returns-3 : tie.Need-returns-3
+returns-3 c = search needs
 
 pub number-at-spec : {M : Type 1} → statement M
 number-at-spec =
     tie.close
-    (tie.spec shared-slice-read-wide wide-requires add-t9 returns groups-requires returns-2)
+    (tie.spec returns shared-slice-read-wide wide-requires add-t8 returns-2 groups-requires returns-3)
