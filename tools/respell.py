@@ -95,9 +95,15 @@ def of_others(text, own):
     return found
 
 
-def turned(text, to):
+def turned(text, to, of_function, source):
     def one(m):
         word = m.group(0)
+        if text[m.start() - 1:m.start()] == "." and of_function or source:
+            # below a dot the proof of a function names its calls and loops, which never were lemmas; nor is a name of the code
+            if word in to and ("-" not in word and word == word.lower()):
+                return word
+            if to.get(word, "").endswith("_lem"):
+                return to[word][:-4]
         if word in to:
             return to[word]
         bare = word.rstrip(":?!")
@@ -134,7 +140,7 @@ def main(words):
         module, home, letter, word = ONE_LETTER
         brought = re.search(re.escape(module) + r"\.\{([^}]*)\}", text)
         mine = path.endswith(home) or brought and letter in re.split(r",\s*", brought.group(1))
-        new = turned(text, {**here, letter: word} if mine else here)
+        new = turned(text, {**here, letter: word} if mine else here, not shared(path), path.endswith(".rt"))
         if new != text:
             with open(path, "w", encoding="utf-8") as it:
                 it.write(new)

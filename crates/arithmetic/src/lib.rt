@@ -1,4 +1,6 @@
 // The binary operations on two numbers.
+#![tactic(auto)]
+
 ghost use Rattle.std.specs.Prelude.{◌≡◌, ◌^◌, ◌<◌, ◌≤◌, pos, ◌+ℤ◌, ◌*ℤ◌, if◌then◌else◌, int_lt};
 ghost use Rattle.laws.specs.Integers.{same_z, floor_div, floor_mod};
 ghost use Rattle.laws.proofs.Machine.{Small};

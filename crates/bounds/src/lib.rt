@@ -1,4 +1,6 @@
 // Interval rules.
+#![tactic(auto)]
+
 ghost use Rattle.std.specs.Prelude.{◌≡◌, true, ◌<◌, ◌≤◌, ℤ, pos, ◌*ℤ◌};
 ghost use Rattle.std.specs.Int.Signed.{mag};
 ghost use Rattle.laws.specs.Integers.{min_z, max_z, min4, max4, floor_div, floor_mod};
@@ -11,7 +13,7 @@ ghost use Rattle.bounds.specs.Narrow.{wide_of, Held, Narrow, Binary, Result};
 use plan::{Interval, Node};
 
 // Bounds that lie in a type.
-#[derive(Drop)]
+#[derive(Clone, Copy)]
 pub struct Bounds {
     pub low: i32,
     pub high: i32,

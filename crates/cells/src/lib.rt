@@ -1,1 +1,2 @@
 // The meaning of a node: the definitions stand in specs/.
+#![tactic(auto)]

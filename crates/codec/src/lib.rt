@@ -1,4 +1,6 @@
 // Packed plans: the seven-bit reader and unpack.
+#![tactic(auto)]
+
 ghost use Rattle.std.specs.Prelude.{◌≡◌, cond, ◌++◌, ◌+◌, ◌*◌, ◌≤◌, ◌<◌, length, get_or, take, drop};
 ghost use Rattle.codec.specs.Numbers.{number_at, word_of};
 ghost use Rattle.plan.specs.Operations.{operation_count, is_new, in_file};
@@ -6,28 +8,28 @@ ghost use Rattle.codec.specs.Plans.{none_new, read_node, unpack, unpack_answer, 
 ghost use Rattle.codec.specs.Steps.{number_of, step_of, plan_of, opening_of, Stands, Wrote, one_word, node_words, nodes_at, head_at, count_at, opening_at, all_nodes};
 
 // What reading a packed number finds: the number and the position after it, or a refusal and its place.
-#[derive(Drop)]
+#[derive(Clone, Copy)]
 pub enum Number {
     Value(usize, usize),
     Broken(usize, usize),
 }
 
 // What reading or writing words finds: the position after them, or a refusal and its place.
-#[derive(Drop)]
+#[derive(Clone, Copy)]
 pub enum Step {
     Next(usize),
     Stop(usize, usize),
 }
 
 // What reading a plan finds: its node count, or a refusal and its place.
-#[derive(Drop)]
+#[derive(Clone, Copy)]
 pub enum Plan {
     Nodes(usize),
     Stop(usize, usize),
 }
 
 // What a file begins with: its edition, its node count and the position after them, or a refusal and its place.
-#[derive(Drop)]
+#[derive(Clone, Copy)]
 pub enum Opening {
     Opens(usize, usize, usize),
     Fails(usize, usize),

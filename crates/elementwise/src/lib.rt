@@ -1,5 +1,7 @@
 // Binary operations and WHERE: each element of a result from two or three views, a row at a time: its flags, its numbers whatever the flags are, then 0
 // in the gaps.
+#![tactic(auto)]
+
 ghost use Rattle.std.specs.Prelude.{◌≡◌, true, ℕ, ◌+◌, ◌*◌, ◌^◌, ◌≤◌, ◌<◌, pos, length, get_or};
 ghost use Rattle.laws.specs.Store.{store};
 ghost use Rattle.laws.proofs.Machine.{Small};

@@ -1,4 +1,6 @@
 // The cells of one node, from its sources' cells in the buffers.
+#![tactic(auto)]
+
 ghost use Rattle.std.specs.Prelude.{◌≡◌, true, cond, List, [], ℕ, ◌+◌, ◌≤◌, ◌<◌, pos, length, get_or, eqb};
 ghost use Rattle.laws.specs.Store.{store};
 ghost use Rattle.overlaying.specs.Overlay.{overlaid_values, overlaid_flags};
@@ -151,7 +153,7 @@ pub fn eval_param(
 }
 
 // A source: its shape, and where its cells begin.
-#[derive(Drop)]
+#[derive(Clone, Copy)]
 pub struct Operand {
     pub shape: Shape,
     pub base: usize,

@@ -1,4 +1,6 @@
 // The lookup: an element of an accepted plan, followed back to where it comes from.
+#![tactic(auto)]
+
 ghost use Rattle.std.specs.Prelude.{◌≡◌, true, List, [], ℕ, ◌+◌, ◌*◌, ◌≤◌, ◌<◌, length};
 ghost use Rattle.laws.specs.Lists.{among};
 ghost use Rattle.laws.specs.Numbering.{count};
@@ -21,14 +23,14 @@ use plan::{ElementNumber, Node, NodeNumber};
 use shapes::Shape;
 
 // The element of its source that an element is, or nothing where it is a gap.
-#[derive(Drop)]
+#[derive(Clone, Copy)]
 pub enum Origin {
     Element(ElementNumber),
     Nothing,
 }
 
 // What a lookup finds, or the number and the place of its refusal.
-#[derive(Drop)]
+#[derive(Clone, Copy)]
 pub enum Looked {
     Finds(Found),
     Refused(u64, u64),

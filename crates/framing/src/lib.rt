@@ -1,5 +1,7 @@
 // Numbers and words in the frames of the program `vectors`, little-endian. What these functions give is not proved beyond its range: the test that
 // spoils every case shows that the program looks at each of its bytes.
+#![tactic(auto)]
+
 ghost use Rattle.std.specs.Prelude.{◌≡◌, ◌+◌, ◌*◌, ◌<◌, ◌≤◌, length};
 
 // A byte as a number.

@@ -1,4 +1,6 @@
 // The input of a run: the numbers and flags of all PARAMs, end to end in node order.
+#![tactic(auto)]
+
 ghost use Rattle.std.specs.Prelude.{◌≡◌, ℕ, ◌+◌, ◌*◌, ◌^◌, ◌<◌, ◌≤◌, true, [], ◌∷◌, length, take, pos, ◌+ℤ◌, ◌≤ℤ◌, if◌then◌else◌, nat_eq, slice_index};
 ghost use Rattle.laws.specs.Lists.{among};
 ghost use Rattle.laws.specs.Numbering.{count};
@@ -15,7 +17,7 @@ ghost use Rattle.inputs.specs.Scanning.{cell_in, gaps_from, scanned};
 use rules::Record;
 
 // What a scan found: 0 where all positions are good, else the number of the refusal and the position.
-#[derive(Drop)]
+#[derive(Clone, Copy)]
 pub struct Finding {
     pub number: u64,
     pub place: u64,

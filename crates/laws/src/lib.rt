@@ -1,1 +1,2 @@
 // Mathematics that no paper owns; definitions in specs/, laws in proofs/.
+#![tactic(auto)]

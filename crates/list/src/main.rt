@@ -1,4 +1,6 @@
 // Lists the packed plan that it reads from standard input.
+#![tactic(auto)]
+
 use libc::{STDIN_FILENO, STDOUT_FILENO};
 
 fn main() {

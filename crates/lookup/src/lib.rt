@@ -1,15 +1,17 @@
 // Following an element back to where it comes from: the definitions stand in specs/.
+#![tactic(auto)]
+
 use plan::{ElementNumber, NodeNumber};
 
 // A node and an element of it.
-#[derive(Drop)]
+#[derive(Clone, Copy)]
 pub struct Place {
     pub node: NodeNumber,
     pub element: ElementNumber,
 }
 
 // What a lookup finds: a place, or a gap.
-#[derive(Drop)]
+#[derive(Clone, Copy)]
 pub enum Found {
     At(Place),
     Gap,
@@ -17,7 +19,7 @@ pub enum Found {
 
 // A lookup's answer as numbers: that of the refusal and its place; 0 nothing, 1 a place, 2 a gap; the place's node and element.
 #[repr(C)]
-#[derive(Drop)]
+#[derive(Clone, Copy)]
 pub struct Reply {
     pub number: u64,
     pub place: u64,

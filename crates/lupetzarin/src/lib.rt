@@ -1,4 +1,6 @@
 // The C library: each export calls the proved crate behind it. `include/lupetzarin.h` declares them.
+#![tactic(auto)]
+
 ghost use Rattle.std.specs.Prelude.{◌+◌, ◌*◌, ◌≡◌, length};
 ghost use Rattle.codec.specs.Plans.{unpack, unpack_answer, table_after};
 ghost use Rattle.lookup.specs.Following.{lookup, reply_of};

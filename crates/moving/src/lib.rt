@@ -1,4 +1,6 @@
 // Movement: cells copied by a view, and cells laid within gaps. Each buffer has its own loop.
+#![tactic(auto)]
+
 ghost use Rattle.std.specs.Prelude.{◌≡◌, true, ℕ, ◌+◌, ◌*◌, ◌^◌, ◌≤◌, ◌<◌, pos, length, get_or};
 ghost use Rattle.laws.specs.Store.{store};
 ghost use Rattle.views.specs.Views.{step, span, rows_of, cells_of, reach};

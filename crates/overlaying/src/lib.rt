@@ -1,4 +1,6 @@
 // FILL and KNOWN: one view's cells laid over another's, and flags as numbers; a loop for each buffer.
+#![tactic(auto)]
+
 ghost use Rattle.std.specs.Prelude.{◌≡◌, true, ℕ, ◌+◌, ◌*◌, ◌≤◌, ◌<◌, pos, length, get_or};
 ghost use Rattle.laws.specs.Store.{store};
 ghost use Rattle.views.specs.Views.{stride_of, step, span, rows_of, reach};

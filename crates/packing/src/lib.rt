@@ -1,4 +1,6 @@
 // Packed plans: the seven-bit writer and pack.
+#![tactic(auto)]
+
 ghost use Rattle.std.specs.Prelude.{◌≡◌, true, cond, ◌++◌, ◌+◌, ◌*◌, ◌≤◌, ◌<◌, length, take, drop};
 ghost use Rattle.plan.specs.Operations.{operation_count};
 ghost use Rattle.plan.specs.Types.{holds};

@@ -1,19 +1,21 @@
 // The vocabulary of plans: number kinds, rows, nodes, intervals and answers, and what decodes them.
+#![tactic(auto)]
+
 ghost use Rattle.std.specs.Prelude.{◌≡◌, cond, pos, ◌+◌, ◌*◌, ◌/◌, ◌%◌, ◌^◌, ◌<◌, ◌≤◌, eqb, length, get_or};
 ghost use Rattle.plan.specs.Operations.{masks, operation_count, is_operation};
 ghost use Rattle.plan.specs.Types.{range_of};
 ghost use Rattle.plan.specs.Words.{size_of, size_at, row_at, node_of, node_at, length_right, in_number, reads, unused_zero};
 
 // The number of a node in its plan. Never taken for an element number.
-#[derive(Drop)]
+#[derive(Clone, Copy)]
 pub struct NodeNumber(pub usize);
 
 // The number of an element in its node, row-major.
-#[derive(Drop)]
+#[derive(Clone, Copy)]
 pub struct ElementNumber(pub usize);
 
 // Four words of a node: row A or row B.
-#[derive(Drop)]
+#[derive(Clone, Copy)]
 pub struct Row {
     pub r0: usize,
     pub r1: usize,
@@ -22,14 +24,14 @@ pub struct Row {
 }
 
 // The whole numbers low..high.
-#[derive(Drop)]
+#[derive(Clone, Copy)]
 pub struct Interval {
     pub low: i64,
     pub high: i64,
 }
 
 // A node's seventeen words by name. A count that is negative in the table is 2^64 - 1 here.
-#[derive(Drop)]
+#[derive(Clone, Copy)]
 pub struct Node {
     pub op: usize,
     pub source1: NodeNumber,
@@ -46,7 +48,7 @@ pub struct Node {
 
 // What a call answers: 0 or the refusal's number, its place, and what the call counts.
 #[repr(C)]
-#[derive(Drop)]
+#[derive(Clone, Copy)]
 pub struct Answer {
     pub number: u64,
     pub place: u64,

@@ -1,5 +1,7 @@
 // REDUCE: sums and maxima over the gathered axes. Numbers and flags are folded apart, each buffer in its own loops; then the numbers of gaps
 // become 0.
+#![tactic(auto)]
+
 ghost use Rattle.std.specs.Prelude.{◌≡◌, ℕ, ◌+◌, ◌*◌, ◌^◌, ◌≤◌, ◌<◌, min, pos, nat_abs, length, get_or};
 ghost use Rattle.laws.specs.Store.{store};
 ghost use Rattle.views.specs.Numbers.{SmallIn};

@@ -1,4 +1,6 @@
 // The rules of one node, and what is derived of it.
+#![tactic(auto)]
+
 ghost use Rattle.std.specs.Prelude.{◌≡◌, true, ℕ, ◌+◌, ◌*◌, ◌≤◌, ◌<◌, length, get_or};
 ghost use Rattle.rules.specs.Rules.{types_agree, one_device, join_device, devices_agree, device_named, param_right, sources_earlier, type_named, rows_right, no_source, divisor_right};
 ghost use Rattle.plan.specs.Operations.{masks, is_operation};
@@ -153,7 +155,7 @@ fn type_named(x: Node, mask: usize) -> bool
 }
 
 // What is derived of a node.
-#[derive(Drop)]
+#[derive(Clone, Copy)]
 pub struct Record {
     pub dtype: u8,
     pub device: u8,
@@ -162,14 +164,14 @@ pub struct Record {
 }
 
 // A shape with its count of elements, or the number of the rule that the node breaks.
-#[derive(Drop)]
+#[derive(Clone, Copy)]
 pub enum Shaped {
     Fits(Shape, usize),
     Misfits(usize),
 }
 
 // A record with its count of elements, or the number of the rule that the node breaks.
-#[derive(Drop)]
+#[derive(Clone, Copy)]
 pub enum Judged {
     Meets(Record, usize),
     Breaks(usize),
@@ -193,7 +195,7 @@ pub fn blank() -> Record
 }
 
 // Rule 7: rows and numbers.
-fn rows_right_lem(x: Node, params: usize, rank: usize) -> bool
+fn rows_right(x: Node, params: usize, rank: usize) -> bool
     requires { is_operation x.op ≡ true }
     ensures { result ≡ rows_right x params rank }
 {

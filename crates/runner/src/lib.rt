@@ -1,1 +1,2 @@
 // The run of a plan: the definitions stand in specs/.
+#![tactic(auto)]

@@ -1,4 +1,6 @@
 // The run of a plan: every node's cells, end to end, into two result buffers.
+#![tactic(auto)]
+
 ghost use Rattle.std.specs.Prelude.{◌≡◌, cond, [], ◌+◌, ◌/◌, ◌-◌, ◌≤◌, ◌<◌, length, get_or};
 ghost use Rattle.plan.specs.Operations.{masks};
 ghost use Rattle.plan.specs.Words.{node_at, if_param, reads};

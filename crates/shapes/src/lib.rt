@@ -1,4 +1,6 @@
 // The extents of a node as the code holds them, and the tests of its rows. The definitions stand in specs/.
+#![tactic(auto)]
+
 ghost use Rattle.std.specs.Prelude.{◌≡◌, Bool, cond, ℕ, ◌<◌, ◌≤◌, eqb, length, take};
 ghost use Rattle.laws.specs.Lists.{all_below, occurrences};
 ghost use Rattle.plan.specs.Words.{list_of};
@@ -8,7 +10,7 @@ ghost use Rattle.shapes.specs.Shown.{words_in, shown, Narrow};
 use plan::Row;
 
 // The extents of a node: the words before the first zero.
-#[derive(Drop)]
+#[derive(Clone, Copy)]
 pub struct Shape {
     pub n0: u32,
     pub n1: u32,

@@ -1,4 +1,6 @@
 // The shape rules: counts, broadcasts, rule 8 and the shape of a result.
+#![tactic(auto)]
+
 ghost use Rattle.std.specs.Prelude.{◌≡◌, true, ◌||◌, cond, List, ◌∷◌, ◌++◌, ℕ, ◌+◌, ◌<◌, ◌≤◌, max, eqb, leb, length, replicate};
 ghost use Rattle.laws.specs.Numbering.{count};
 ghost use Rattle.plan.specs.Operations.{PERMUTE, STACK};
@@ -92,7 +94,7 @@ fn ones_in_front(s: Shape, d: usize) -> Shape
 }
 
 // Two operands of one rank.
-#[derive(Drop)]
+#[derive(Clone, Copy)]
 struct Operands {
     left: Shape,
     right: Shape,

@@ -1,4 +1,6 @@
 // The flags of binary operations and WHERE, a row at a time, from three views; and the numbers of a row under its flags.
+#![tactic(auto)]
+
 ghost use Rattle.std.specs.Prelude.{◌≡◌, true, ℕ, ◌+◌, ◌≤◌, ◌<◌, ℤ, pos, length, get_or};
 ghost use Rattle.laws.specs.Store.{store};
 ghost use Rattle.views.specs.Views.{stride_of, step, span};
@@ -140,7 +142,7 @@ fn row_sides(values: &[i64], flags: &mut [u8], n: usize, p: usize, a: Stride, to
 }
 
 // The sides of eight cells.
-#[derive(Drop)]
+#[derive(Clone, Copy)]
 pub struct Sides {
     pub s0: u8,
     pub s1: u8,

@@ -13,13 +13,15 @@
 // Before the call word k of a buffer is 1000 + k, and a flag or a byte is 9. Writes a line for each case that differs, is malformed or is cut short, and at last
 // `N passed, M failed`. No frame is passed over: the expected output carries the number of cases.
 // tests/tools/vectors.py writes the frames; `vectors.py --list` names the case of each index.
+#![tactic(auto)]
+
 ghost use Rattle.std.specs.Prelude.{◌≡◌, true, ◌+◌, ◌*◌, ◌<◌, ◌≤◌, length};
 
 use libc::{STDIN_FILENO, STDOUT_FILENO};
 use plan::{ElementNumber, NodeNumber};
 
 // What came of a case.
-#[derive(Drop)]
+#[derive(Clone, Copy)]
 enum Finding {
     Same,
     Different,
@@ -119,7 +121,7 @@ fn buffer_case(kind: u8, input: &[u8], answer: &[u8]) -> Finding {
 }
 
 // How much of each the input of a run has, and the rooms of its result buffers.
-#[derive(Drop)]
+#[derive(Clone, Copy)]
 struct Sizes {
     words: usize,
     values: usize,

@@ -1,4 +1,6 @@
 // The check of a plan: its answer and what it writes.
+#![tactic(auto)]
+
 ghost use Rattle.std.specs.Prelude.{ℕ, ◌+◌, ◌*◌, ◌≤◌, ◌<◌, ◌/◌, ◌≡◌, cond, [], ◌∷◌, map, eqb, length, take, get_or};
 ghost use Rattle.std.proofs.lemmas.List.Edits.{sets};
 ghost use Rattle.laws.specs.Lists.{concat};
@@ -14,7 +16,7 @@ use plan::{Node, NodeNumber};
 use rules::{Judged, Record};
 
 // The records of an accepted plan, the first `count` of them, and the total of their elements; or the refusal and its place.
-#[derive(Drop)]
+#[derive(Clone, Copy)]
 pub struct Derivation {
     pub number: usize,
     pub place: usize,

@@ -1,4 +1,6 @@
 // Views: where each element of a result finds its source in a buffer, by strides.
+#![tactic(auto)]
+
 ghost use Rattle.std.specs.Prelude.{◌≡◌, true, cond, ◌++◌, ℕ, ◌+◌, ◌*◌, ◌-◌, ◌^◌, ◌≤◌, ◌<◌, length, take, replicate, get_or};
 ghost use Rattle.plan.specs.Words.{list_of};
 ghost use Rattle.shapes.specs.Shown.{shown};
@@ -10,14 +12,14 @@ use plan::Row;
 use shapes::Shape;
 
 // What one step along an axis adds: upwards, or from the far end.
-#[derive(Drop)]
+#[derive(Clone, Copy)]
 pub struct Stride {
     pub up: usize,
     pub down: usize,
 }
 
 // The place of the first element, and the strides of four axes.
-#[derive(Drop)]
+#[derive(Clone, Copy)]
 pub struct View {
     pub base: usize,
     pub s0: Stride,

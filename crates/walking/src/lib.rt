@@ -1,4 +1,6 @@
 // Views walked together, and the view of each movement operation.
+#![tactic(auto)]
+
 ghost use Rattle.std.specs.Prelude.{◌≡◌, [], ℕ, ◌+◌, ◌*◌, ◌^◌, ◌≤◌, ◌<◌};
 ghost use Rattle.laws.specs.Numbering.{count};
 ghost use Rattle.plan.specs.Words.{list_of};
@@ -14,7 +16,7 @@ use shapes::Shape;
 use views::View;
 
 // Three views over one grid.
-#[derive(Drop)]
+#[derive(Clone, Copy)]
 pub struct Walk {
     pub grid: Row,
     pub a: View,

@@ -65,7 +65,7 @@ returns-5 : tie.Need-returns-5
 unfolding binary among
 returns-5 c =
     let s = c.before.before in
-    arm s.ranges.x s.ranges.y (sfits_of c.floor_mod_lem.type-inv) 13 floor_mod c.before.match.keys5 c.floor_mod_lem.ensures refl
+    arm s.ranges.x s.ranges.y (sfits_of c.floor_mod.type-inv) 13 floor_mod c.before.match.keys5 c.floor_mod.ensures refl
 
 returns-6 : tie.Need-returns-6
 unfolding binary among

@@ -19,10 +19,10 @@ in-file-requires : tie.Need-in-file-requires
 in-file-requires c κs = search rules
 
 returns : tie.Need-returns
-returns c = node_unknown _ _ _ _ c.before.before.before.before.before.number_at.ensures _ c.before.before.before.op.given.1 c.before.in_file_lem.ensures (off _ refl c.if1.true)
+returns c = node_unknown _ _ _ _ c.before.before.before.before.before.number_at.ensures _ c.before.before.before.op.given.1 c.before.in_file.ensures (off _ refl c.if1.true)
 
 words-requires : tie.Need-words-requires
-words-requires c κs = (file_known _ _ (sym c.before.before.in_file_lem.ensures ∙ on _ refl c.before.if1.false), search rules)
+words-requires c κs = (file_known _ _ (sym c.before.before.in_file.ensures ∙ on _ refl c.before.if1.false), search rules)
 
 returns-2 : tie.Need-returns-2
 returns-2 c = node_broken _ _ _ _ c.before.before.before.number_at.ensures _ c.before.number.given.1
@@ -31,7 +31,7 @@ same_length : tie.Need-same-length
 same_length c = search rules
 
 returns-3 : tie.Need-returns-3
-returns-3 c = node_read _ _ _ _ c.before.before.before.before.before.before.before.before.number_at.ensures _ c.before.before.before.before.before.before.op.given.1 c.before.before.before.before.in_file_lem.ensures (on _ refl c.before.before.before.if1.false) c.before.words.ensures
+returns-3 c = node_read _ _ _ _ c.before.before.before.before.before.before.before.before.number_at.ensures _ c.before.before.before.before.before.before.op.given.1 c.before.before.before.before.in_file.ensures (on _ refl c.before.before.before.if1.false) c.before.words.ensures
 
 pub node-spec : {M : Type 1} → statement M
 node-spec =

@@ -54,7 +54,7 @@ returns-3 c =
     let p5 = p4.before in
     let p6 = p5.before in
     let p7 = p6.before in
-    early_4 _ _ p7.args.x p7.requires.1 _ p6.is_operation.ensures p5.if1.false _ (words_part _ _) _ p3.unused-zero.ensures p2.if2.false _ p1.sources_earlier_lem.ensures c.if3.true
+    early_4 _ _ p7.args.x p7.requires.1 _ p6.is_operation.ensures p5.if1.false _ (words_part _ _) _ p3.unused-zero.ensures p2.if2.false _ p1.sources_earlier.ensures c.if3.true
 
 returns-4 : tie.Need-returns-4
 returns-4 c =
@@ -65,7 +65,7 @@ returns-4 c =
     let p5 = p4.before in
     let p6 = p5.before in
     let p7 = p6.before in
-    early_none _ _ p7.args.x p7.requires.1 _ p6.is_operation.ensures p5.if1.false _ (words_part _ _) _ p3.unused-zero.ensures p2.if2.false _ p1.sources_earlier_lem.ensures c.if3.false
+    early_none _ _ p7.args.x p7.requires.1 _ p6.is_operation.ensures p5.if1.false _ (words_part _ _) _ p3.unused-zero.ensures p2.if2.false _ p1.sources_earlier.ensures c.if3.false
 
 pub early-spec : {M : Type 1} → statement M
 early-spec =

@@ -20,7 +20,7 @@ returns c =
     let p3 = p2.before in
     let within = gathered_within (shown p3.args.s) (list_of p3.args.x.rowa) (extents_positive (words_in p3.args.s)) p3.requires in
     let few = gathered_few (shown p3.args.s) (list_of p3.args.x.rowa) (extents_positive (words_in p3.args.s)) p3.requires in
-    let is = c.gathered_count_lem.ensures ∙ within in
+    let is = c.gathered_count.ensures ∙ within in
     record { most = rw is few; all = λ q. sym is }
 
 returns-2 : tie.Need-returns-2

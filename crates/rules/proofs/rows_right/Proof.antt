@@ -2,8 +2,8 @@ use Rattle.laws.proofs.Machine.{read_back_is, fit_at}
 use mathlib.Core.Path.{◌∙◌}
 use Rattle.rules.proofs.RowRule.{rows_const, rows_param, rows_permute, rows_flip, rows_shape, rows_offset, rows_any, rows_reduce, rows_load, rows_none, rows_stack, left_of_four}
 use borrow.Author.Rules.{rules}
-use Rattle.rules.proofs.rows_right_lem.Statement.{statement}
-use Rattle.rules.proofs.rows_right_lem.Tie as tie
+use Rattle.rules.proofs.rows_right.Statement.{statement}
+use Rattle.rules.proofs.rows_right.Tie as tie
 
 returns : tie.Need-returns
 returns c = rows_const _ _ _ c.if1.true

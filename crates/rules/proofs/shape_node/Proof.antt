@@ -61,7 +61,7 @@ returns-3 c =
     let p9 = p8.before in
     let p10 = p9.before in
     breaks_7 p10.args.x p10.args.params (view_of p10.args.a) (view_of p10.args.b) (view_of p10.args.c) _ p6.type-named.ensures p5.if1.false _ p4.types-agree.ensures p3.if2.false
-    _ (ranked p10.args.x p10.args.params p1.rows_right_lem.ensures p2.rank.ensures) c.if3.true
+    _ (ranked p10.args.x p10.args.params p1.rows_right.ensures p2.rank.ensures) c.if3.true
 
 shapes-agree-requires : tie.Need-shapes-agree-requires
 shapes-agree-requires c κs =
@@ -76,7 +76,7 @@ shapes-agree-requires c κs =
     let p9 = p8.before in
     let p10 = p9.before in
     rows_tested p10.args.x _ _ (rows_held p10.args.x p10.args.params (view_of p10.args.a) (view_of p10.args.b) (view_of p10.args.c) _ p6.type-named.ensures p5.if1.false _ p4.types-agree.ensures p3.if2.false
-    _ (ranked p10.args.x p10.args.params p1.rows_right_lem.ensures p2.rank.ensures) c.if3.false) _ p10.requires.0.known p10.requires.1
+    _ (ranked p10.args.x p10.args.params p1.rows_right.ensures p2.rank.ensures) c.if3.false) _ p10.requires.0.known p10.requires.1
 
 returns-4 : tie.Need-returns-4
 returns-4 c =
@@ -93,7 +93,7 @@ returns-4 c =
     let p11 = p10.before in
     let p12 = p11.before in
     breaks_8_shapes p12.args.x p12.args.params (view_of p12.args.a) (view_of p12.args.b) (view_of p12.args.c) _ p8.type-named.ensures p7.if1.false _ p6.types-agree.ensures p5.if2.false
-    _ (ranked p12.args.x p12.args.params p3.rows_right_lem.ensures p4.rank.ensures) p2.if3.false _ p1.shapes_agree_lem.ensures c.if4.true
+    _ (ranked p12.args.x p12.args.params p3.rows_right.ensures p4.rank.ensures) p2.if3.false _ p1.shapes_agree.ensures c.if4.true
 
 result-shape-requires : tie.Need-result-shape-requires
 result-shape-requires c κs =
@@ -110,8 +110,8 @@ result-shape-requires c κs =
     let p11 = p10.before in
     let p12 = p11.before in
     let rows = rows_held p12.args.x p12.args.params (view_of p12.args.a) (view_of p12.args.b) (view_of p12.args.c) _ p8.type-named.ensures p7.if1.false _ p6.types-agree.ensures p5.if2.false
-    _ (ranked p12.args.x p12.args.params p3.rows_right_lem.ensures p4.rank.ensures) p2.if3.false in
-    (rows_tested p12.args.x _ _ rows _ p12.requires.0.known p12.requires.1, (permute_rule _ _ _ rows, λ q. stack_rank p12.args.x _ _ _ q (on _ p1.shapes_agree_lem.ensures c.if4.false)))
+    _ (ranked p12.args.x p12.args.params p3.rows_right.ensures p4.rank.ensures) p2.if3.false in
+    (rows_tested p12.args.x _ _ rows _ p12.requires.0.known p12.requires.1, (permute_rule _ _ _ rows, λ q. stack_rank p12.args.x _ _ _ q (on _ p1.shapes_agree.ensures c.if4.false)))
 
 count-requires : tie.Need-count-requires
 count-requires c κs = search rules
@@ -134,7 +134,7 @@ returns-5 c =
     let p14 = p13.before in
     let p15 = p14.before in
     breaks_8_count p15.args.x p15.args.params (view_of p15.args.a) (view_of p15.args.b) (view_of p15.args.c) _ p11.type-named.ensures p10.if1.false _ p9.types-agree.ensures p8.if2.false
-    _ (ranked p15.args.x p15.args.params p6.rows_right_lem.ensures p7.rank.ensures) p5.if3.false _ p4.shapes_agree_lem.ensures
+    _ (ranked p15.args.x p15.args.params p6.rows_right.ensures p7.rank.ensures) p5.if3.false _ p4.shapes_agree.ensures
     p3.if4.false _ _ p2.result-shape.ensures p1.count.ensures c.if5.true
 
 returns-6 : tie.Need-returns-6
@@ -155,11 +155,11 @@ returns-6 c =
     let p14 = p13.before in
     let p15 = p14.before in (
       fits_all p15.args.x p15.args.params (view_of p15.args.a) (view_of p15.args.b) (view_of p15.args.c) _ p11.type-named.ensures p10.if1.false _ p9.types-agree.ensures p8.if2.false
-          _ (ranked p15.args.x p15.args.params p6.rows_right_lem.ensures p7.rank.ensures) p5.if3.false _ p4.shapes_agree_lem.ensures
+          _ (ranked p15.args.x p15.args.params p6.rows_right.ensures p7.rank.ensures) p5.if3.false _ p4.shapes_agree.ensures
           p3.if4.false _ _ p2.result-shape.ensures p1.count.ensures c.if5.false,
       p2.result-shape.ensures,
       fits_count p15.args.x p15.args.params (view_of p15.args.a) (view_of p15.args.b) (view_of p15.args.c) _ p11.type-named.ensures p10.if1.false _ p9.types-agree.ensures p8.if2.false
-          _ (ranked p15.args.x p15.args.params p6.rows_right_lem.ensures p7.rank.ensures) p5.if3.false _ p4.shapes_agree_lem.ensures
+          _ (ranked p15.args.x p15.args.params p6.rows_right.ensures p7.rank.ensures) p5.if3.false _ p4.shapes_agree.ensures
           p3.if4.false _ _ p2.result-shape.ensures p1.count.ensures c.if5.false,
     )
 

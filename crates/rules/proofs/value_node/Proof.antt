@@ -38,7 +38,7 @@ returns-2 c =
     let p7 = p6.before in
     let p8 = p7.before in
     let p9 = p8.before in
-    breaks_10 p9.args.x (view_of p9.args.a) (view_of p9.args.b) (view_of p9.args.c) _ p4.devices-agree.ensures p3.if1.false _ (p1.divisor_right_lem.ensures ∙ ap (divisor_right p9.args.x.op) p2.wide.ensures.0) c.if2.true
+    breaks_10 p9.args.x (view_of p9.args.a) (view_of p9.args.b) (view_of p9.args.c) _ p4.devices-agree.ensures p3.if1.false _ (p1.divisor_right.ensures ∙ ap (divisor_right p9.args.x.op) p2.wide.ensures.0) c.if2.true
 
 gathers-requires : tie.Need-gathers-requires
 gathers-requires c κs = search rules
@@ -76,7 +76,7 @@ returns-3 c =
     let p14 = p13.before in
     let p15 = p14.before in
     let p16 = p15.before in
-    breaks_11 p16.args.x (view_of p16.args.a) (view_of p16.args.b) (view_of p16.args.c) _ p11.devices-agree.ensures p10.if1.false _ (p8.divisor_right_lem.ensures ∙ ap (divisor_right p16.args.x.op) p9.wide.ensures.0)
+    breaks_11 p16.args.x (view_of p16.args.a) (view_of p16.args.b) (view_of p16.args.c) _ p11.devices-agree.ensures p10.if1.false _ (p8.divisor_right.ensures ∙ ap (divisor_right p16.args.x.op) p9.wide.ensures.0)
     p7.if2.false _ _ p2.result-type.ensures.is_type
     (bounds_of p16.args.x (shown p16.args.a.extents) (p3.result-bounds.ensures (shown p16.args.a.extents) p6.gathers.ensures.all) p5.wide2.ensures.0 p9.wide.ensures.0 p4.wide3.ensures.0)
     _ p1.in_type.ensures c.if3.true
@@ -120,7 +120,7 @@ narrow-requires c κs =
     let p15 = p14.before in
     let p16 = p15.before in
     let p17 = p16.before in
-    range_narrow _ _ (range_held p17.args.x (view_of p17.args.a) (view_of p17.args.b) (view_of p17.args.c) _ p12.devices-agree.ensures p11.if1.false _ (p9.divisor_right_lem.ensures ∙ ap (divisor_right p17.args.x.op) p10.wide.ensures.0)
+    range_narrow _ _ (range_held p17.args.x (view_of p17.args.a) (view_of p17.args.b) (view_of p17.args.c) _ p12.devices-agree.ensures p11.if1.false _ (p9.divisor_right.ensures ∙ ap (divisor_right p17.args.x.op) p10.wide.ensures.0)
     p8.if2.false _ _ p3.result-type.ensures.is_type
     (bounds_of p17.args.x (shown p17.args.a.extents) (p4.result-bounds.ensures (shown p17.args.a.extents) p7.gathers.ensures.all) p6.wide2.ensures.0 p10.wide.ensures.0 p5.wide3.ensures.0)
     _ p2.in_type.ensures p1.if3.false)
@@ -151,7 +151,7 @@ returns-4 c =
     let p16 = p15.before in
     let p17 = p16.before in
     let p18 = p17.before in (
-      values_hold p18.args.x (view_of p18.args.a) (view_of p18.args.b) (view_of p18.args.c) _ p13.devices-agree.ensures p12.if1.false _ (p10.divisor_right_lem.ensures ∙ ap (divisor_right p18.args.x.op) p11.wide.ensures.0)
+      values_hold p18.args.x (view_of p18.args.a) (view_of p18.args.b) (view_of p18.args.c) _ p13.devices-agree.ensures p12.if1.false _ (p10.divisor_right.ensures ∙ ap (divisor_right p18.args.x.op) p11.wide.ensures.0)
           p9.if2.false _ _ p4.result-type.ensures.is_type
           (bounds_of p18.args.x (shown p18.args.a.extents) (p5.result-bounds.ensures (shown p18.args.a.extents) p8.gathers.ensures.all) p7.wide2.ensures.0 p11.wide.ensures.0 p6.wide3.ensures.0)
           _ p3.in_type.ensures p2.if3.false,

@@ -37,7 +37,7 @@ returns-2 c =
     let e = c.before.before.before.before.before.before.before.before.before.before.before.args in
     rw (
       c.before.before.before.before.before.row_of.ensures (λ (n : ℕ). ltb n e.rank) refl refl refl refl,
-      c.all_below_lem.ensures (λ (k : ℕ). eqb (occurrences k (take e.rank (list_of e.row))) 1)
+      c.all_below.ensures (λ (k : ℕ). eqb (occurrences k (take e.rank (list_of e.row))) 1)
           (λ h. c.before.before.before.before.is-once.ensures)
           (λ h. c.before.before.before.is-once2.ensures)
           (λ h. c.before.before.is-once3.ensures)

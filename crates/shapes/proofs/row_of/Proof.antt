@@ -27,7 +27,7 @@ returns : tie.Need-returns
 unfolding row_of
 returns c p t0 t1 t2 t3 =
     let e = c.before.before.before.before.before.args in
-    c.all_below_lem.ensures (λ (k : ℕ). cond (ltb k e.rank) (p (get_or (list_of e.row) k 0)) (eqb (get_or (list_of e.row) k 0) 0))
+    c.all_below.ensures (λ (k : ℕ). cond (ltb k e.rank) (p (get_or (list_of e.row) k 0)) (eqb (get_or (list_of e.row) k 0) 0))
     (λ h. rw (← t0) c.before.before.before.before.word-passes.ensures)
     (λ h. rw (← t1) c.before.before.before.word-passes2.ensures)
     (λ h. rw (← t2) c.before.before.word-passes3.ensures)

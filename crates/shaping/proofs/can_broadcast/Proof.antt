@@ -30,7 +30,7 @@ returns : tie.Need-returns
 returns c =
     let o = c.before.before.before.before.before.before.before.aligned.ensures in
     can_words _ _ _ _ o.left o.right o.rank
-    (λ p t0 t1 t2 t3. c.all_below_lem.ensures p (λ h. c.before.before.before.before.equal-or-one.ensures ∙ t0 h)
+    (λ p t0 t1 t2 t3. c.all_below.ensures p (λ h. c.before.before.before.before.equal-or-one.ensures ∙ t0 h)
     (λ h. c.before.before.before.equal-or-one2.ensures ∙ t1 h) (λ h. c.before.before.equal-or-one3.ensures ∙ t2 h) (λ h. c.before.equal-or-one4.ensures ∙ t3 h))
 
 pub can-broadcast-spec : {M : Type 1} → statement M

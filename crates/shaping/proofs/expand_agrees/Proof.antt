@@ -40,7 +40,7 @@ returns-2 c =
     ranks_same (λ (k n m : ℕ). eqb n 1 || eqb n m) e.s e.r
     c.before.before.before.before.before.before.before.rank.ensures c.before.before.before.before.before.before.rank2.ensures
     c.before.before.before.before.before.if1.false
-    (λ p t0 t1 t2 t3. c.all_below_lem.ensures p (λ h. c.before.before.before.before.expands.ensures ∙ t0 h) (λ h. c.before.before.before.expands2.ensures ∙ t1 h) (λ h. c.before.before.expands3.ensures ∙ t2 h) (λ h. c.before.expands4.ensures ∙ t3 h))
+    (λ p t0 t1 t2 t3. c.all_below.ensures p (λ h. c.before.before.before.before.expands.ensures ∙ t0 h) (λ h. c.before.before.before.expands2.ensures ∙ t1 h) (λ h. c.before.before.expands3.ensures ∙ t2 h) (λ h. c.before.expands4.ensures ∙ t3 h))
 
 pub expand-agrees-spec : {M : Type 1} → statement M
 expand-agrees-spec =

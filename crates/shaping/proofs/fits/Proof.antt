@@ -41,7 +41,7 @@ returns-2 c =
     ranks_same (λ (k n m : ℕ). leb (word_of (words_in e.o) k + n) m) e.inner e.outer
     c.before.before.before.before.before.before.before.rank.ensures c.before.before.before.before.before.before.rank2.ensures
     c.before.before.before.before.before.if1.false
-    (λ p t0 t1 t2 t3. c.all_below_lem.ensures p (λ h. c.before.before.before.before.within.ensures ∙ t0 h) (λ h. c.before.before.before.within2.ensures ∙ t1 h) (λ h. c.before.before.within3.ensures ∙ t2 h) (λ h. c.before.within4.ensures ∙ t3 h))
+    (λ p t0 t1 t2 t3. c.all_below.ensures p (λ h. c.before.before.before.before.within.ensures ∙ t0 h) (λ h. c.before.before.before.within2.ensures ∙ t1 h) (λ h. c.before.before.within3.ensures ∙ t2 h) (λ h. c.before.within4.ensures ∙ t3 h))
 
 pub fits-spec : {M : Type 1} → statement M
 fits-spec =

@@ -27,7 +27,7 @@ unfolding same_shape
 returns-2 c =
     let e = c.before.before.before.before.before.before.before.before.before.before.before.before.args in
     ranks_same (λ (k n m : ℕ). eqb n m) e.s e.r c.before.before.before.before.before.before.before.before.before.before.before.rank.ensures c.before.before.before.before.before.before.before.before.before.before.rank2.ensures c.before.before.before.before.before.before.before.before.before.if1.false
-    (λ p t0 t1 t2 t3. c.all_below_lem.ensures p t0 t1 t2 t3)
+    (λ p t0 t1 t2 t3. c.all_below.ensures p t0 t1 t2 t3)
 
 pub same-shape-spec : {M : Type 1} → statement M
 same-shape-spec =

@@ -17,7 +17,7 @@ rank-requires c κs = search rules
 
 returns : tie.Need-returns
 returns c =
-    agree_stack _ _ _ _ c.before.before.before.before.requires c.before.before.in-number.ensures c.before.before.before.same_shape_lem.ensures c.before.same-shape2.ensures c.rank.ensures
+    agree_stack _ _ _ _ c.before.before.before.before.requires c.before.before.in-number.ensures c.before.before.before.same_shape.ensures c.before.same-shape2.ensures c.rank.ensures
 
 pub stack-agrees-spec : {M : Type 1} → statement M
 stack-agrees-spec =

@@ -50,14 +50,14 @@ returns c =
     let p = c.before.before.before.before.before in
     let g = c.before.before.before.before.grid in
     let a = c.before.axes in
-    rw c.permute_view_lem.ensures (permute_view_lem p.args.x _ g.result p.args.base p.requires.0 g.ensures c.before.before.match.keys1 a.result (rw c.before.before.before.rank.ensures at a.ensures))
+    rw c.permute_view.ensures (permute_view_lem p.args.x _ g.result p.args.base p.requires.0 g.ensures c.before.before.match.keys1 a.result (rw c.before.before.before.rank.ensures at a.ensures))
 
 returns-2 : tie.Need-returns-2
 returns-2 c =
     let p = c.before.before.before.before.before in
     let g = c.before.before.before.before.grid in
     let a = c.before.words in
-    rw c.flip_view_lem.ensures (flip_view_lem p.args.x _ g.result p.args.base p.requires.0 g.ensures c.before.before.match.keys2 a.result (rw c.before.before.before.rank.ensures at a.ensures))
+    rw c.flip_view.ensures (flip_view_lem p.args.x _ g.result p.args.base p.requires.0 g.ensures c.before.before.match.keys2 a.result (rw c.before.before.before.rank.ensures at a.ensures))
 
 returns-3 : tie.Need-returns-3
 returns-3 c =
@@ -73,7 +73,7 @@ returns-4 c =
     let a = c.before.words2 in
     let rest = c.before.before.match.rest in
     let op = last_viewed x.op p.requires.0.operation rest.0.0.1 rest.0.1 rest.1 in
-    rw c.shrink_view_lem.ensures (shrink_view_lem x _ g.result p.args.base p.requires.0 g.ensures op a.result (rw c.before.before.before.rank.ensures at a.ensures))
+    rw c.shrink_view.ensures (shrink_view_lem x _ g.result p.args.base p.requires.0 g.ensures op a.result (rw c.before.before.before.rank.ensures at a.ensures))
 
 pub view-of-spec : {M : Type 1} → statement M
 view-of-spec =
