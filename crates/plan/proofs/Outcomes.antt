@@ -122,6 +122,7 @@ holds_then test e f = rw e (later f)
 pub some_rule : (rules : List Rule) {k : ℕ} → FirstFailing rules k → 0 < length rules
 some_rule (rule number false ∷ rules) here = omega arith
 some_rule (rule number true ∷ rules) (later w) = omega arith
+some_rule [] {k = k} w = elim w [ ]
 
 pub fails_cases : (number : ℕ) (test : Bool) (rules : List Rule) (k : ℕ) → FirstFailing (rule number test ∷ rules) k → ((test ≡ false) × (k ≡ number)) ⊎ ((test ≡ true) × FirstFailing rules k)
 fails_cases number false rules k here = inl (refl, refl)
@@ -164,3 +165,4 @@ module _ {A : Type 0} where
       → in_order rules place next ≡ refuse failing place
   order_fails (rule number false ∷ rules) place next here = refl
   order_fails (rule number true ∷ rules) place next (later h) = order_fails rules place next h
+  order_fails {failing = failing} [] place next w = elim w [ ]

@@ -44,6 +44,7 @@ pub zero_more : {op mask : ℕ} (w : List ℤ) (k bits : ℕ) (used : Bool) (wor
     → eqb (bit_or bits (of_z w64 word)) 0 ≡ all_below (k + 1) (used_or_zero op w)
 zero_more {op} w (suc k) bits used word m i l h e b f q =
     rw (add-one, all_below_snoc (suc k) (used_or_zero op w), or_zero bits (of_z w64 word), q, unused_bits used (word_at w (suc k)) f, e, b, i, mask_bit op (suc k) m h, eqb-suc-zero) refl
+zero_more {op = op} {mask = mask} w zero bits used word m i l h e b f q = elim l [ ]
 
 -- no word before the first: word 0 is the operation
 pub zero_none : (op : ℕ) (w : List ℤ) → eqb 0 0 ≡ all_below 1 (used_or_zero op w)

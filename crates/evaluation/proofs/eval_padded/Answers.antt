@@ -1,0 +1,38 @@
+use native.Mathlib.Omega.{arith}
+use Rattle.shapes.specs.Shown.{shown}
+use Rattle.views.proofs.Fronts.{grid_cells}
+use Rattle.evaluation.proofs.Laying.{pad_laid, pad_evaluates}
+use borrow.Author.Rules.{rules}
+use Rattle.evaluation.proofs.eval_padded.Goals as goal
+
+pub rows-rows-requires : goal.rows-rows-requires
+rows-rows-requires c =
+    let cells = grid_cells (shown c.args.r) c.grid-g.result c.grid-g.ensures in
+    (omega (arith, cells, c.requires.1.some), omega (arith, cells, c.requires.0.few))
+
+pub pad_values-requires : goal.pad_values-requires
+pad_values-requires c =
+    let under = c.grid-inner in
+    let over = c.grid-g in
+    let o = rw c.rank.ensures at c.words-offsets.ensures in
+    let n = c.rows-rows.ensures in
+    let cells = grid_cells (shown c.args.r) over.result over.ensures in
+    let inner = grid_cells (shown c.args.s) under.result under.ensures in
+    (pad_laid c.args.x _ _ under.result over.result c.words-offsets.result c.requires.0 under.ensures over.ensures o, n, omega (arith, inner, c.requires.2), rw n (omega (arith, cells, c.requires.1.values)))
+
+pub pad_flags-requires : goal.pad_flags-requires
+pad_flags-requires c =
+    let under = c.grid-inner in
+    let over = c.grid-g in
+    let o = rw c.rank.ensures at c.words-offsets.ensures in
+    let n = c.rows-rows.ensures in
+    let cells = grid_cells (shown c.args.r) over.result over.ensures in
+    let inner = grid_cells (shown c.args.s) under.result under.ensures in
+    (pad_laid c.args.x _ _ under.result over.result c.words-offsets.result c.requires.0 under.ensures over.ensures o, n, omega (arith, inner, c.requires.2), rw n (omega (arith, cells, c.requires.1.flags)))
+
+pub returns : goal.returns
+returns c =
+    let under = c.grid-inner in
+    let over = c.grid-g in
+    let o = rw c.rank.ensures at c.words-offsets.ensures in
+    λ s from. pad_evaluates c.args.x _ _ under.result over.result c.words-offsets.result c.requires.0 under.ensures over.ensures o c.args.base s _ _ c.args.start from c.pad_values.ensures c.pad_flags.ensures

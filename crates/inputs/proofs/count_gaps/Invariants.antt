@@ -1,0 +1,10 @@
+use Rattle.std.proofs.Common.{◌≡◌, ◌+◌, ◌-◌, ◌≤◌, arith, rules}
+use Rattle.inputs.proofs.Gaps.{gaps_none, gaps_after, gaps_few}
+use Rattle.inputs.specs.Scanning.{gaps_from}
+use Rattle.inputs.proofs.count_gaps.Given as goal
+
+abbrev pub invariant-loop-i : goal.invariant-loop-i
+invariant-loop-i l = (l.i ≤ l.n) × (l.gaps ≡ gaps_from l.flags l.from l.i)
+
+abbrev pub decreases-loop-i : goal.decreases-loop-i
+decreases-loop-i l = l.n - l.i

@@ -1,0 +1,15 @@
+use Rattle.std.proofs.Common.{◌≡◌, ◌+◌, ◌-◌, ◌≤◌, get_or, pos, refl, arith, w64, to_z, rules}
+use Rattle.laws.specs.Lists.{among}
+use Rattle.laws.proofs.Machine.{read_back}
+use Rattle.plan.specs.Types.{between}
+use Rattle.plan.specs.Answers.{accepted}
+use Rattle.inputs.proofs.Reading.{test_read, limits_read}
+use Rattle.inputs.specs.Nodes.{test_part}
+use Rattle.inputs.proofs.Scans.{part_none, part_more, part_stops}
+use Rattle.inputs.proofs.first_fault.Given as goal
+
+abbrev pub invariant-loop-i : goal.invariant-loop-i
+invariant-loop-i l = (l.i ≤ l.n) × (test_part (between (to_z w64 l.low) (to_z w64 l.high)) l.values l.flags l.from l.i ≡ accepted tt)
+
+abbrev pub decreases-loop-i : goal.decreases-loop-i
+decreases-loop-i l = l.n - l.i

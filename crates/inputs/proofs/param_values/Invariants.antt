@@ -1,0 +1,13 @@
+use Rattle.std.proofs.Common.{◌≡◌, ℕ, ◌+◌, ◌-◌, ◌≤◌, length, get_or, pos, refl, ◌∙◌, to_z-of_z, rules}
+use Rattle.laws.specs.Store.{store}
+use Rattle.laws.proofs.Store.{store_none, store_step, store_done}
+use Rattle.runner.specs.Run.{value_of}
+use Rattle.inputs.proofs.Reading.{cell_read}
+use Rattle.inputs.specs.Scanning.{cell_in}
+use Rattle.inputs.proofs.param_values.Given as goal
+
+abbrev pub invariant-loop-i : goal.invariant-loop-i
+invariant-loop-i l = (l.i ≤ l.n) × (length l.values ≡ length l.initial.values) × (l.values ≡ store l.initial.values l.to l.i (λ (j : ℕ). value_of (cell_in l.given l.known (l.from + j))))
+
+abbrev pub decreases-loop-i : goal.decreases-loop-i
+decreases-loop-i l = l.n - l.i

@@ -1,0 +1,6 @@
+use borrow.Author.Rules.{rules}
+use Rattle.laws.proofs.Pieces.{then}
+use Rattle.listing.proofs.marked.Goals as goal
+
+pub returns : goal.returns
+returns c = then c.put-next.ensures c.decimal.ensures

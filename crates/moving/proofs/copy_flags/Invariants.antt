@@ -1,0 +1,15 @@
+use Prim.Native.Nat.{ℕ, ◌+◌, ◌-◌, ◌≤◌}
+use mathlib.Core.Path.{◌≡◌, refl}
+use native.Mathlib.Omega.{arith}
+use lib.ListN.{length, get_or}
+use Rattle.laws.specs.Store.{store}
+use Rattle.laws.proofs.Store.{store_none, store_step, store_load, store_done}
+use Rattle.views.specs.Views.{step}
+use borrow.Author.Rules.{rules}
+use Rattle.moving.proofs.copy_flags.Given as goal
+
+abbrev pub invariant-loop-i : goal.invariant-loop-i
+invariant-loop-i l = (l.i ≤ l.n) × (length l.flags ≡ length l.initial.flags) × (l.flags ≡ store l.initial.flags l.to l.i (λ (j : ℕ). get_or l.initial.flags (l.p + step l.n l.s j) 0))
+
+abbrev pub decreases-loop-i : goal.decreases-loop-i
+decreases-loop-i l = l.n - l.i

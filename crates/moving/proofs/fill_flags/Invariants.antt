@@ -1,0 +1,13 @@
+use Prim.Native.Nat.{ℕ, ◌-◌, ◌≤◌}
+use mathlib.Core.Path.{◌≡◌, refl}
+use lib.ListN.{length}
+use Rattle.laws.specs.Store.{store}
+use Rattle.laws.proofs.Store.{store_none, store_step, store_done}
+use borrow.Author.Rules.{rules}
+use Rattle.moving.proofs.fill_flags.Given as goal
+
+abbrev pub invariant-loop-i : goal.invariant-loop-i
+invariant-loop-i l = (l.i ≤ l.n) × (length l.flags ≡ length l.initial.flags) × (l.flags ≡ store l.initial.flags l.to l.i (λ (j : ℕ). l.flag))
+
+abbrev pub decreases-loop-i : goal.decreases-loop-i
+decreases-loop-i l = l.n - l.i

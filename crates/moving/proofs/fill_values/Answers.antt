@@ -1,0 +1,17 @@
+use Prim.Native.Nat.{ℕ, ◌-◌, ◌≤◌}
+use mathlib.Core.Path.{◌≡◌, refl}
+use lib.IntN.{pos}
+use lib.ListN.{length}
+use Rattle.laws.specs.Store.{store}
+use Rattle.laws.proofs.Store.{store_none, store_step, store_done}
+use borrow.Author.Rules.{rules}
+use Rattle.moving.proofs.fill_values.Goals as goal
+
+pub loop-i-init : goal.loop-i-init
+loop-i-init c = (search rules, refl, store_none _ _ _)
+
+pub loop-i-preserved : goal.loop-i-preserved
+loop-i-preserved c = (search rules, search rules, store_step _ _ _ _ _ _ c.loop-i.invariant.2 refl)
+
+pub returns : goal.returns
+returns c = store_done _ _ _ _ _ _ c.loop-i.invariant.2 (search rules) (search rules)

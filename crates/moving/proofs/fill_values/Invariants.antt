@@ -1,0 +1,14 @@
+use Prim.Native.Nat.{ℕ, ◌-◌, ◌≤◌}
+use mathlib.Core.Path.{◌≡◌, refl}
+use lib.IntN.{pos}
+use lib.ListN.{length}
+use Rattle.laws.specs.Store.{store}
+use Rattle.laws.proofs.Store.{store_none, store_step, store_done}
+use borrow.Author.Rules.{rules}
+use Rattle.moving.proofs.fill_values.Given as goal
+
+abbrev pub invariant-loop-i : goal.invariant-loop-i
+invariant-loop-i l = (l.i ≤ l.n) × (length l.values ≡ length l.initial.values) × (l.values ≡ store l.initial.values l.to l.i (λ (j : ℕ). (pos 0)))
+
+abbrev pub decreases-loop-i : goal.decreases-loop-i
+decreases-loop-i l = l.n - l.i

@@ -1,0 +1,19 @@
+use Prim.Native.Nat.{ℕ, ◌+◌, ◌*◌, ◌-◌, ◌≤◌}
+use mathlib.Core.Path.{◌≡◌, refl}
+use native.Mathlib.Omega.{arith}
+use native.Mathlib.Nat.{zero-mul}
+use lib.ListN.{length}
+use Rattle.laws.specs.Store.{store}
+use Rattle.laws.proofs.Store.{store_none, length_store}
+use Rattle.views.specs.Walks.{band_place}
+use Rattle.views.proofs.RowPlaces.{next_block, block_fits}
+use Rattle.moving.specs.Moved.{fetch}
+use Rattle.moving.proofs.Bands.{pad_turn}
+use borrow.Author.Rules.{rules}
+use Rattle.moving.proofs.pad_flags.Given as goal
+
+abbrev pub invariant-loop-i : goal.invariant-loop-i
+invariant-loop-i l = (l.i ≤ l.rows) × (l.to ≡ l.start + l.i * l.n) × (length l.flags ≡ length l.initial.flags) × (l.flags ≡ store l.initial.flags l.start (l.i * l.n) (λ (j : ℕ). fetch 0 l.initial.flags (band_place l.r l.o l.s l.base j)))
+
+abbrev pub decreases-loop-i : goal.decreases-loop-i
+decreases-loop-i l = l.rows - l.i

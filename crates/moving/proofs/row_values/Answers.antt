@@ -1,0 +1,20 @@
+use borrow.Author.Rules.{rules}
+use Rattle.moving.proofs.row_values.Goals as goal
+
+pub copy_values-requires : goal.copy_values-requires
+copy_values-requires c = let e = c.is_stride.ensures c.if-is_stride.true in (rw e at c.requires.0, c.requires.1)
+
+pub returns-then-is_stride : goal.returns-then-is_stride
+returns-then-is_stride c = let e = c.is_stride.ensures c.if-is_stride.true in rw e c.copy_values.ensures
+
+pub copy_values-requires-then-is_stride-2 : goal.copy_values-requires-then-is_stride-2
+copy_values-requires-then-is_stride-2 c = let e = c.is_stride-2.ensures c.if-is_stride-2.true in (rw e at c.requires.0, c.requires.1)
+
+pub returns-then-is_stride-2 : goal.returns-then-is_stride-2
+returns-then-is_stride-2 c = let e = c.is_stride-2.ensures c.if-is_stride-2.true in rw e c.copy_values-then-is_stride-2.ensures
+
+pub copy_values-requires-2 : goal.copy_values-requires-2
+copy_values-requires-2 c = c.requires
+
+pub returns : goal.returns
+returns c = c.copy_values-2.ensures

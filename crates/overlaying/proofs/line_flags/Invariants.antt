@@ -1,0 +1,17 @@
+use Prim.Native.Nat.{ℕ, ◌+◌, ◌-◌, ◌≤◌}
+use mathlib.Core.Path.{◌≡◌, refl, ◌∙◌}
+use native.Mathlib.Omega.{arith}
+use lib.ListN.{length}
+use Rattle.laws.specs.Store.{store}
+use Rattle.laws.proofs.Store.{store_none, store_step, store_done}
+use Rattle.views.specs.Views.{step}
+use Rattle.overlaying.specs.Overlay.{over_flag}
+use Rattle.overlaying.proofs.Overlays.{flag_read}
+use borrow.Author.Rules.{rules}
+use Rattle.overlaying.proofs.line_flags.Given as goal
+
+abbrev pub invariant-loop-i : goal.invariant-loop-i
+invariant-loop-i l = (l.i ≤ l.n) × (length l.flags ≡ length l.initial.flags) × (l.flags ≡ store l.initial.flags l.to l.i (λ (j : ℕ). over_flag l.initial.flags (l.p + step l.n l.a j) (l.q + step l.n l.b j)))
+
+abbrev pub decreases-loop-i : goal.decreases-loop-i
+decreases-loop-i l = l.n - l.i

@@ -1,0 +1,18 @@
+use mir.Facts.{to_z-of_z}
+use Prim.Native.Nat.{ℕ, ◌+◌, ◌-◌, ◌≤◌}
+use mathlib.Core.Path.{◌≡◌, refl}
+use native.Mathlib.Omega.{arith}
+use lib.ListN.{length}
+use Rattle.laws.specs.Store.{store}
+use Rattle.laws.proofs.Store.{store_none, store_step, store_done}
+use Rattle.views.specs.Views.{step}
+use Rattle.overlaying.specs.Overlay.{over_value}
+use Rattle.overlaying.proofs.Overlays.{value_read}
+use borrow.Author.Rules.{rules}
+use Rattle.overlaying.proofs.line_values.Given as goal
+
+abbrev pub invariant-loop-i : goal.invariant-loop-i
+invariant-loop-i l = (l.i ≤ l.n) × (length l.values ≡ length l.initial.values) × (l.values ≡ store l.initial.values l.to l.i (λ (j : ℕ). over_value l.initial.values l.flags (l.p + step l.n l.a j) (l.q + step l.n l.b j)))
+
+abbrev pub decreases-loop-i : goal.decreases-loop-i
+decreases-loop-i l = l.n - l.i

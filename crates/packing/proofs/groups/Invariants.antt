@@ -1,0 +1,13 @@
+use Prim.Native.Nat.{◌+◌, ◌≤◌}
+use mathlib.Core.Path.{refl, ◌∙◌}
+use native.Mathlib.Omega.{arith}
+use borrow.Author.Rules.{rules}
+use lib.ListN.{length, length-set}
+use Rattle.packing.proofs.Putting.{Put, put_none, put_room, put_length, put_last, put_more, put_all}
+use Rattle.packing.proofs.groups.Given as goal
+
+abbrev pub invariant-loop-left : goal.invariant-loop-left
+invariant-loop-left l = Put l.k l.m l.initial.bytes l.at l.bytes l.rest l.to l.left × (l.at + l.k ≤ length l.initial.bytes)
+
+abbrev pub decreases-loop-left : goal.decreases-loop-left
+decreases-loop-left l = l.left

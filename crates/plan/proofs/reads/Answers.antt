@@ -1,0 +1,9 @@
+use mathlib.Core.Path.{refl}
+use borrow.Author.Rules.{rules}
+use Rattle.plan.specs.Words.{reads}
+use Rattle.plan.proofs.Masks.{mask_uses}
+use Rattle.plan.proofs.reads.Goals as goal
+
+pub returns : goal.returns
+unfolding reads
+returns c = rw (c.in_number.ensures, c.uses_word.ensures, c.requires.0, mask_uses c.args.x.op c.args.k c.requires.1) refl

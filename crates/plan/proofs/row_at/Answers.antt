@@ -1,0 +1,5 @@
+use borrow.Author.Rules.{rules}
+use Rattle.plan.proofs.row_at.Goals as goal
+
+pub returns : goal.returns
+returns c = cc

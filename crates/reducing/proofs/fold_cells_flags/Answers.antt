@@ -1,0 +1,26 @@
+use Prim.Native.Nat.{ℕ, ◌+◌, ◌-◌, ◌≤◌, min}
+use mathlib.Core.Path.{◌≡◌, refl}
+use lib.ListN.{length}
+use Rattle.laws.proofs.Store.{store_none, store_step, store_done}
+use Rattle.views.specs.Views.{step}
+use Rattle.reducing.specs.Gathering.{taken}
+use Rattle.reducing.proofs.Folds.{cell_turn}
+use borrow.Author.Rules.{rules}
+use Rattle.reducing.proofs.fold_cells_flags.Goals as goal
+
+pub loop-c-init : goal.loop-c-init
+loop-c-init c = (search rules, refl, store_none _ _ _)
+
+pub loop-c-preserved : goal.loop-c-preserved
+loop-c-preserved c =
+    let a = c.args in
+    let e = c.loop-c.invariant.2 in (
+      search rules,
+      search rules,
+      store_step _ _ _ _ _ _ e
+          (cell_turn _ _ _ _ _ _ a.p a.n a.a _ e c.requires.0 c.loop-c-test.true c.step_at.ensures.0 refl refl refl
+          c.smaller-r.ensures),
+    )
+
+pub returns : goal.returns
+returns c = store_done _ _ _ _ _ _ c.loop-c.invariant.2 (search rules) (search rules)

@@ -1,0 +1,61 @@
+use Prim.Native.Nat.{ℕ}
+use mathlib.Core.Path.{◌≡◌, ◌∙◌, ap}
+use mathlib.Core.Bool.{Bool}
+use borrow.Author.Rules.{rules}
+use Rattle.plan.specs.declared.Node.{Node}
+use Rattle.rules.specs.Rules.{rows_right}
+use Rattle.rules.specs.Code.{view_of}
+use Rattle.shapes.proofs.Stacking.{stack_rank}
+use Rattle.laws.proofs.Booleans.{on}
+use Rattle.rules.proofs.RowRule.{permute_rule}
+use Rattle.rules.proofs.Judging.{rows_tested, rows_held, breaks_5, breaks_6, breaks_7, breaks_8_shapes, breaks_8_count, fits_all, fits_count}
+use Rattle.rules.proofs.shape_node.Goals as goal
+
+-- rule 7 at the rank that was computed
+ranked : (x : Node) (params : ℕ) {rank length : ℕ} {r : Bool} → r ≡ rows_right x params rank → rank ≡ length → r ≡ rows_right x params length
+ranked x params e q = e ∙ ap (λ (n : ℕ). rows_right x params n) q
+
+pub returns-then-not-type_named : goal.returns-then-not-type_named
+returns-then-not-type_named c = breaks_5 c.args.x c.args.params (view_of c.args.a) (view_of c.args.b) (view_of c.args.c) _ c.type_named.ensures c.if-not-type_named.true
+
+pub returns-then-not-types_agree : goal.returns-then-not-types_agree
+returns-then-not-types_agree c = breaks_6 c.args.x c.args.params (view_of c.args.a) (view_of c.args.b) (view_of c.args.c) _ c.type_named.ensures c.if-not-type_named.false _ c.types_agree.ensures c.if-not-types_agree.true
+
+pub returns-then-not-rows_right : goal.returns-then-not-rows_right
+returns-then-not-rows_right c =
+    breaks_7 c.args.x c.args.params (view_of c.args.a) (view_of c.args.b) (view_of c.args.c) _ c.type_named.ensures c.if-not-type_named.false _ c.types_agree.ensures c.if-not-types_agree.false
+    _ (ranked c.args.x c.args.params c.rows_right.ensures c.rank.ensures) c.if-not-rows_right.true
+
+pub shapes_agree-requires : goal.shapes_agree-requires
+shapes_agree-requires c =
+    rows_tested c.args.x _ _ (rows_held c.args.x c.args.params (view_of c.args.a) (view_of c.args.b) (view_of c.args.c) _ c.type_named.ensures c.if-not-type_named.false _ c.types_agree.ensures c.if-not-types_agree.false
+    _ (ranked c.args.x c.args.params c.rows_right.ensures c.rank.ensures) c.if-not-rows_right.false) _ c.requires.0.known c.requires.1
+
+pub returns-then-not-shapes_agree : goal.returns-then-not-shapes_agree
+returns-then-not-shapes_agree c =
+    breaks_8_shapes c.args.x c.args.params (view_of c.args.a) (view_of c.args.b) (view_of c.args.c) _ c.type_named.ensures c.if-not-type_named.false _ c.types_agree.ensures c.if-not-types_agree.false
+    _ (ranked c.args.x c.args.params c.rows_right.ensures c.rank.ensures) c.if-not-rows_right.false _ c.shapes_agree.ensures c.if-not-shapes_agree.true
+
+pub result_shape-e-requires : goal.result_shape-e-requires
+result_shape-e-requires c =
+    let rows = rows_held c.args.x c.args.params (view_of c.args.a) (view_of c.args.b) (view_of c.args.c) _ c.type_named.ensures c.if-not-type_named.false _ c.types_agree.ensures c.if-not-types_agree.false
+    _ (ranked c.args.x c.args.params c.rows_right.ensures c.rank.ensures) c.if-not-rows_right.false in
+    (rows_tested c.args.x _ _ rows _ c.requires.0.known c.requires.1, (permute_rule _ _ _ rows, λ q. stack_rank c.args.x _ _ _ q (on _ c.shapes_agree.ensures c.if-not-shapes_agree.false)))
+
+pub returns-then-n-gt1048576 : goal.returns-then-n-gt1048576
+returns-then-n-gt1048576 c =
+    breaks_8_count c.args.x c.args.params (view_of c.args.a) (view_of c.args.b) (view_of c.args.c) _ c.type_named.ensures c.if-not-type_named.false _ c.types_agree.ensures c.if-not-types_agree.false
+    _ (ranked c.args.x c.args.params c.rows_right.ensures c.rank.ensures) c.if-not-rows_right.false _ c.shapes_agree.ensures
+    c.if-not-shapes_agree.false _ _ c.result_shape-e.ensures c.count-n.ensures c.if-n-gt1048576.true
+
+pub returns : goal.returns
+returns c =
+    (
+      fits_all c.args.x c.args.params (view_of c.args.a) (view_of c.args.b) (view_of c.args.c) _ c.type_named.ensures c.if-not-type_named.false _ c.types_agree.ensures c.if-not-types_agree.false
+          _ (ranked c.args.x c.args.params c.rows_right.ensures c.rank.ensures) c.if-not-rows_right.false _ c.shapes_agree.ensures
+          c.if-not-shapes_agree.false _ _ c.result_shape-e.ensures c.count-n.ensures c.if-n-gt1048576.false,
+      c.result_shape-e.ensures,
+      fits_count c.args.x c.args.params (view_of c.args.a) (view_of c.args.b) (view_of c.args.c) _ c.type_named.ensures c.if-not-type_named.false _ c.types_agree.ensures c.if-not-types_agree.false
+          _ (ranked c.args.x c.args.params c.rows_right.ensures c.rank.ensures) c.if-not-rows_right.false _ c.shapes_agree.ensures
+          c.if-not-shapes_agree.false _ _ c.result_shape-e.ensures c.count-n.ensures c.if-n-gt1048576.false,
+    )

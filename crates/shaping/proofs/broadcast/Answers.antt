@@ -1,0 +1,6 @@
+use Rattle.shaping.proofs.Alignment.{larger_words}
+use borrow.Author.Rules.{rules}
+use Rattle.shaping.proofs.broadcast.Goals as goal
+
+pub returns : goal.returns
+returns c = search larger_words

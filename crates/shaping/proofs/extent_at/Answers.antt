@@ -1,0 +1,6 @@
+use Rattle.shaping.proofs.Axes.{word_none}
+use borrow.Author.Rules.{rules}
+use Rattle.shaping.proofs.extent_at.Goals as goal
+
+pub returns : goal.returns
+returns c = search word_none

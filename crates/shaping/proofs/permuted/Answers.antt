@@ -1,0 +1,6 @@
+use Rattle.shaping.proofs.Axes.{permuted_words}
+use borrow.Author.Rules.{rules}
+use Rattle.shaping.proofs.permuted.Goals as goal
+
+pub returns : goal.returns
+returns c = search permuted_words

@@ -1,0 +1,10 @@
+use mathlib.Core.Path.{refl}
+use borrow.Author.Tests.{ne_eqb}
+use Rattle.laws.proofs.Machine.{read_back_is}
+use Rattle.validity.proofs.cleared.Goals as goal
+
+pub returns-then-f-eq1 : goal.returns-then-f-eq1
+returns-then-f-eq1 c = rw (c.if-f-eq1.true, read_back_is c.ranges.x) refl
+
+pub returns-else-f-eq1 : goal.returns-else-f-eq1
+returns-else-f-eq1 c = rw (ne_eqb _ 1 c.if-f-eq1.false) refl
