@@ -1,18 +1,17 @@
 -- The bounds of a result, by ranges of operations as the code asks for them.
-use Prim.Native.Nat.{ℕ, suc, ◌<◌, ◌≤◌}
+use Prim.Native.Nat.{ℕ, ◌<◌, ◌≤◌}
 use mathlib.Core.Path.{◌≡◌, refl, ap, sym, ◌∙◌}
 use mathlib.Core.Bool.{Bool, true, false}
-use mathlib.Core.List.{List}
 use native.Mathlib.Omega.{arith}
-use lib.IntN.{ℤ, pos}
+use lib.IntN.{pos}
 use Rattle.laws.specs.Lists.{among}
 use Rattle.plan.specs.declared.Interval.{Interval}
 use Rattle.plan.specs.declared.Node.{Node}
 use Rattle.plan.specs.Operations.{is_operation, by_operation}
 use Rattle.plan.specs.Types.{between}
-use Rattle.plan.specs.Words.{list_of, in_number}
+use Rattle.plan.specs.Words.{in_number}
 use Rattle.plan.proofs.ByOperation.{◌then◌, for_range, operation_small, stack_third}
-use Rattle.bounds.specs.Rules.{max_bounds, where_bounds, stack_bounds, gathered_count, reduce_bounds, bounds_rules, result_bounds}
+use Rattle.bounds.specs.Rules.{where_bounds, stack_bounds, reduce_bounds, bounds_rules, result_bounds}
 use Rattle.bounds.specs.Narrow.{Binary, Result}
 
 -- what is left of 9..17 after the eight before it

@@ -1,14 +1,13 @@
 -- Each interval rule is sound over ℤ: numbers within the sources' bounds give a number within the result's.
-use Prim.Native.Nat.{ℕ, zero, suc, ◌+◌, ◌*◌}
-use mathlib.Core.Path.{◌≡◌, refl, sym, ap, ◌∙◌}
-use mathlib.Core.Bool.{Bool, true, false, ◌&&◌, ◌||◌, not, cond, false≢true}
+use mathlib.Core.Path.{◌≡◌, refl}
+use mathlib.Core.Bool.{Bool, true, false, ◌&&◌, not, cond, false≢true}
 use mathlib.Core.Logic.{◌⊎◌, inl, inr}
-use lib.IntN.{ℤ, pos, negsuc, ◌+ℤ◌, ◌-ℤ◌, ◌*ℤ◌}
+use lib.IntN.{ℤ, pos, ◌+ℤ◌, ◌-ℤ◌, ◌*ℤ◌}
 use lib.Signed.{lt_z, le_z, ◌≤ℤ◌, ◌<ℤ◌}
 use Rattle.laws.specs.Integers.{Within, same_z, min_z, max_z, floor_div, floor_mod}
 use Rattle.laws.proofs.Booleans.{and_true, or_true}
-use Rattle.laws.proofs.Parts.{arithℤ, le_parts, lt_parts, of_le, of_lt, add_parts, lt_z_true, lt_z_false, le_z_true, le_z_false}
-use Rattle.laws.proofs.Order.{within_of, of_within, same_is, differs}
+use Rattle.laws.proofs.Parts.{arithℤ, of_le, of_lt, add_parts, lt_z_true, lt_z_false, le_z_true, le_z_false}
+use Rattle.laws.proofs.Order.{within_of, of_within}
 use Rattle.laws.proofs.Extremes.{min_z_of, max_z_of, min_z_le_left, min_z_le_right, le_max_z_left, le_max_z_right}
 use Rattle.laws.proofs.Product.{product_within}
 use Rattle.laws.proofs.Floor.{quotient_within, remainder_within_up, remainder_within_down}

@@ -1,5 +1,5 @@
 -- Bounds as the code holds them, and what its functions ask of an interval.
-use Rattle.std.specs.Prelude.{ℕ, ◌≡◌, List, ℤ, pos, negsuc}
+use Rattle.std.specs.Prelude.{ℕ, ◌≡◌, List, pos, negsuc}
 use Rattle.laws.specs.Integers.{Within}
 use Rattle.plan.specs.declared.Interval.{Interval}
 use Rattle.plan.specs.declared.Node.{Node}

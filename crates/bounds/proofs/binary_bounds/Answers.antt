@@ -1,5 +1,4 @@
 use mathlib.Core.Path.{refl}
-use borrow.Author.Rules.{rules}
 use Rattle.laws.specs.Lists.{among}
 use Rattle.bounds.proofs.ByRange.{last_binary}
 use Rattle.bounds.proofs.binary_bounds.Goals as goal
@@ -39,6 +38,6 @@ returns-in-16 c x s d = rw (c.in-16.is, c.min_bounds.ensures) refl
 pub returns-in_default : goal.returns-in_default
 unfolding among
 returns-in_default c x s d =
-    let rest = c.in_default.rest in
+    let rest = c.in_default.in_default-own.rest in
     let last = last_binary c.args.op c.requires.0 c.requires.1 rest.0.0.0.0.0.0.0.1 rest.0.0.0.0.0.0.1 rest.0.0.0.0.0.1 rest.0.0.0.0.1 rest.0.0.0.1 rest.0.0.1 rest.0.1 rest.1 in
     rw (last, c.max_bounds-in_default.ensures) refl

@@ -11,9 +11,11 @@ module _ (x y : Interval) where
   below : lt_z x.high y.low ≡ true → record { low = pos 1; high = pos 1 } ≡ cmplt_bounds x y
   unfolding cmplt_bounds
   below e = rw e
+
   above : lt_z x.high y.low ≡ false → le_z y.high x.low ≡ true → record { low = pos 0; high = pos 0 } ≡ cmplt_bounds x y
   unfolding cmplt_bounds
   above e f = rw (e, f)
+
   mixed : lt_z x.high y.low ≡ false → le_z y.high x.low ≡ false → record { low = pos 0; high = pos 1 } ≡ cmplt_bounds x y
   unfolding cmplt_bounds
   mixed e f = rw (e, f)

@@ -1,5 +1,5 @@
 use mathlib.Core.Path.{◌≡◌}
-use mathlib.Core.Bool.{Bool, true, false}
+use mathlib.Core.Bool.{true, false}
 use lib.IntN.{pos}
 use Rattle.laws.proofs.Machine.{read_back_is, fit_at}
 use Rattle.plan.specs.declared.Interval.{Interval}
@@ -11,9 +11,11 @@ module _ (x y : Interval) where
   apart : disjoint x y ≡ true → between (pos 1) (pos 1) ≡ cmpne_bounds x y
   unfolding cmpne_bounds
   apart e = rw e
+
   equal : disjoint x y ≡ false → all_ends_equal x y ≡ true → between (pos 0) (pos 0) ≡ cmpne_bounds x y
   unfolding cmpne_bounds
   equal e f = rw (e, f)
+
   mixed : disjoint x y ≡ false → all_ends_equal x y ≡ false → between (pos 0) (pos 1) ≡ cmpne_bounds x y
   unfolding cmpne_bounds
   mixed e f = rw (e, f)

@@ -1,4 +1,3 @@
-use borrow.Author.Rules.{rules}
 use Rattle.laws.proofs.Machine.{read_back_is}
 use Rattle.bounds.proofs.Floors.{quotient_fits, less_fits, below_is, above_is}
 use Rattle.bounds.proofs.floor_by.Goals as goal

@@ -1,5 +1,5 @@
-use mathlib.Core.Path.{◌≡◌, sym, ap, ◌∙◌}
-use borrow.Author.Rules.{rules, sfits_of}
+use mathlib.Core.Path.{◌≡◌}
+use borrow.Author.Rules.{sfits_of}
 use lib.IntN.{ℤ}
 use mir.Syntax.{w64}
 use mir.Val.{SFits}
@@ -19,4 +19,4 @@ returns c =
     let q = c.greatest-2 in
     let r = c.greatest-3 in
     let f = c.ranges in
-    four f.a f.b f.c f.d (sfits_of p.type-inv) (sfits_of q.type-inv) (sfits_of r.type-inv) p.ensures q.ensures r.ensures
+    four f.a f.b f.c f.d (sfits_of p.type_inv) (sfits_of q.type_inv) (sfits_of r.type_inv) p.ensures q.ensures r.ensures

@@ -1,15 +1,10 @@
-use mathlib.Core.Path.{◌≡◌, sym, ap, ◌∙◌}
-use mathlib.Core.Logic.{⊎_elim}
-use borrow.Author.Rules.{rules}
-use lib.IntN.{ℤ, pos}
-use lib.Signed.{◌≤ℤ◌}
+use mathlib.Core.Path.{◌≡◌, ◌∙◌}
+use lib.IntN.{ℤ}
 use mir.Syntax.{w64}
 use mir.Val.{SFits}
 use Rattle.laws.proofs.Machine.{Small, read_back, read_back_is, small_fits, fit_at}
-use Rattle.laws.proofs.Parts.{arithℤ, eq_parts}
 use Rattle.laws.specs.Integers.{min4, max4, floor_div}
 use Rattle.bounds.specs.Rules.{corners, idiv_bounds}
-use Rattle.bounds.specs.Narrow.{Held}
 use Rattle.plan.specs.declared.Interval.{Interval}
 use Rattle.bounds.proofs.idiv_bounds.Goals as goal
 
@@ -48,4 +43,4 @@ returns c =
     (one x.low y.high (fit_at c.quotient-q.result c.quotient-q.type_inv) c.quotient-q.ensures)
     (one x.high y.low (fit_at c.quotient-r.result c.quotient-r.type_inv) c.quotient-r.ensures)
     (one x.high y.high (fit_at c.quotient-s.result c.quotient-s.type_inv) c.quotient-s.ensures)
-    (fit_at l.result l.type-inv) (fit_at h.result h.type-inv) l.ensures h.ensures
+    (fit_at l.result l.type_inv) (fit_at h.result h.type_inv) l.ensures h.ensures

@@ -14,11 +14,14 @@ use Rattle.bounds.proofs.mod_bounds.Goals as goal
 module _ (y : Interval) (h : Held y) where
   less : SFits w64 (read_back y.high -ℤ pos 1)
   less = rw (read_back_is (small_fits h.high)) (omega (arith_machine, h.high, diff_parts y.high (pos 1)))
+
   more : SFits w64 (read_back y.low +ℤ pos 1)
   more = rw (read_back_is (small_fits h.low)) (omega (arith_machine, h.low, add_parts y.low (pos 1)))
+
   up : lt_z (pos 0) (read_back y.low) ≡ true → record { low = pos 0; high = read_back (read_back y.high -ℤ pos 1) } ≡ mod_bounds y
   unfolding mod_bounds
   up e = rw (read_back_is less, read_back_is (small_fits h.high), rw (read_back_is (small_fits h.low)) at e)
+
   down : lt_z (pos 0) (read_back y.low) ≡ false → record { low = read_back (read_back y.low +ℤ pos 1); high = pos 0 } ≡ mod_bounds y
   unfolding mod_bounds
   down e = rw (read_back_is more, read_back_is (small_fits h.low), rw (read_back_is (small_fits h.low)) at e)

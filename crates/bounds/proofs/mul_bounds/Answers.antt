@@ -1,9 +1,9 @@
-use mathlib.Core.Path.{◌≡◌, sym, ap, ◌∙◌}
-use borrow.Author.Rules.{rules, sfits_of}
+use mathlib.Core.Path.{◌≡◌}
+use borrow.Author.Rules.{sfits_of}
 use lib.IntN.{ℤ, ◌*ℤ◌}
 use mir.Syntax.{w64}
 use mir.Val.{SFits}
-use Rattle.laws.proofs.Machine.{Small, read_back, read_back_is, read_mul_fits, read_mul}
+use Rattle.laws.proofs.Machine.{read_back, read_back_is, read_mul_fits, read_mul}
 use Rattle.laws.specs.Integers.{min4, max4}
 use Rattle.bounds.specs.Rules.{corners, mul_bounds}
 use Rattle.bounds.specs.Narrow.{Held}

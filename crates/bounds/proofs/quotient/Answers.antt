@@ -1,10 +1,9 @@
-use mathlib.Core.Path.{sym, ap, ◌∙◌}
+use mathlib.Core.Path.{ap}
 use borrow.Author.Rules.{sfits_of}
-use lib.IntN.{pos}
 use mir.Syntax.{w64}
 use mir.Val.{of_z}
 use Rattle.laws.specs.Integers.{floor_div}
-use Rattle.laws.proofs.Machine.{read_back_is, small_fits}
+use Rattle.laws.proofs.Machine.{read_back_is}
 use Rattle.bounds.proofs.Readback.{back, by_zero_below, by_zero_above}
 use Rattle.bounds.proofs.quotient.Goals as goal
 

@@ -1,4 +1,3 @@
-use borrow.Author.Rules.{rules}
 use Rattle.laws.proofs.Machine.{read_back_is, fit_at}
 use Rattle.bounds.proofs.ByRange.{bounds_const, bounds_param, bounds_moved, bounds_binary, bounds_where, bounds_reduce, bounds_load, bounds_fill, bounds_known, last_operation, bounds_stack}
 use Rattle.bounds.proofs.result_bounds.Goals as goal

@@ -1,4 +1,3 @@
-use borrow.Author.Rules.{rules}
 use Rattle.bounds.proofs.ByRange.{stack_three, stack_two}
 use Rattle.bounds.proofs.stack_bounds.Goals as goal
 

@@ -1,4 +1,3 @@
-use borrow.Author.Rules.{rules}
 use Rattle.bounds.proofs.Readback.{read_times_fits, read_times}
 use Rattle.bounds.proofs.sum_bounds.Goals as goal
 

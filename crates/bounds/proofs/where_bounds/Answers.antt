@@ -1,4 +1,4 @@
-use borrow.Author.Rules.{rules, sfits_of}
+use borrow.Author.Rules.{sfits_of}
 use Rattle.laws.specs.Integers.{min_z, max_z}
 use Rattle.laws.proofs.Machine.{fit_at}
 use Rattle.bounds.specs.Rules.{where_bounds}
@@ -13,4 +13,4 @@ returns c =
     let h = c.greatest in
     let x = c.struct_told-1.given in
     let y = c.struct_told-2-1.given in
-    ends_back min_z max_z (fit_at a.x.low x.0.1) (fit_at a.y.low y.0.1) (fit_at a.x.high x.1.0.1) (fit_at a.y.high y.1.0.1) (sfits_of l.type-inv) (sfits_of h.type-inv) l.ensures h.ensures
+    ends_back min_z max_z (fit_at a.x.low x.0.1) (fit_at a.y.low y.0.1) (fit_at a.x.high x.1.0.1) (fit_at a.y.high y.1.0.1) (sfits_of l.type_inv) (sfits_of h.type_inv) l.ensures h.ensures
