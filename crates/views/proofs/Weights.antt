@@ -58,11 +58,16 @@ weight_front (suc d) row c zero h = rw (weight_none (axes_in_front d row) (λ k.
 weight_front (suc d) row c (suc m) h =
     rw (eqb-suc-zero, weight_suc m (axes_in_front d row) (λ k. c (suc k)), weight_front d row (λ k. c (suc k)) m (le_of_suc-le-suc h)) (zero-add _)
 
-pub weight_rest : (d : ℕ) (row : List ℕ) (c : ℕ → ℕ) (m : ℕ) → weight (d + m) (axes_in_front d row) c ≡ weight m row (λ (k : ℕ). c (d + k))
+-- one axis fewer in front
+weight_step : (m d : ℕ) (row : List ℕ) (c : ℕ → ℕ) → weight (suc m) (axes_in_front (suc d) row) c ≡ weight m (axes_in_front d row) (λ (k : ℕ). c (suc k))
 unfolding weight axes_in_front
+weight_step m d row c = rw (eqb-suc-zero, weight_suc m (axes_in_front d row) (λ k. c (suc k))) (zero-add _)
+
+pub weight_rest : (d : ℕ) (row : List ℕ) (c : ℕ → ℕ) (m : ℕ) → weight (d + m) (axes_in_front d row) c ≡ weight m row (λ (k : ℕ). c (d + k))
+unfolding axes_in_front
 weight_rest zero row c m = simp zero-add
 weight_rest (suc d) row c m =
-    simp (suc-add, eqb-suc-zero, weight_suc, zero-add) (weight_rest d row (λ k. c (suc k)) m)
+    simp suc-add (weight_step (d + m) d row c ∙ weight_rest d row (λ k. c (suc k)) m)
 
 -- ---- the sum
 

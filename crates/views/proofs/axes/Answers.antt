@@ -1,10 +1,8 @@
-use Prim.Native.Nat.{◌-◌}
 use mathlib.Core.Path.{◌≡◌}
 use native.Mathlib.Omega.{arith}
 use native.Mathlib.Numerals.{add-one}
 use Rattle.views.specs.Strides.{axes_in_front}
 use Rattle.views.proofs.Steps.{two, three}
-use borrow.Author.Rules.{rules}
 use Rattle.views.proofs.axes.Goals as goal
 
 pub returns-in-0 : goal.returns-in-0
@@ -25,4 +23,4 @@ returns-in-3 c = rw (c.in-3.is, add-one, add-one, add-one)
 
 pub returns-in_default : goal.returns-in_default
 unfolding axes_in_front
-returns-in_default c = let e : c.args.rank ≡ 4 = omega (arith, c.in_default.rest, c.requires) in rw e
+returns-in_default c = let e : c.args.rank ≡ 4 = omega arith in rw e

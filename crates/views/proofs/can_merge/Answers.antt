@@ -1,4 +1,3 @@
-use Prim.Native.Nat.{◌-◌}
 use borrow.Author.Tests.{eq-eqb, ne_eqb}
 use Rattle.views.proofs.Steps.{up_fits, down_fits}
 use Rattle.views.proofs.can_merge.Goals as goal

@@ -1,6 +1,4 @@
-use Prim.Native.Nat.{◌-◌}
 use borrow.Author.Tests.{eq-eqb, ne_eqb}
-use borrow.Author.Rules.{rules}
 use Rattle.views.proofs.flip_stride.Goals as goal
 
 pub returns-then-flag-eq1 : goal.returns-then-flag-eq1

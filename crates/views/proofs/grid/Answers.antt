@@ -1,10 +1,8 @@
 use Rattle.shapes.specs.Shown.{words_in}
 use Rattle.shapes.proofs.Extents.{extents_length}
 use Rattle.views.proofs.Steps.{extents_first}
-use Prim.Native.Nat.{◌-◌}
 use mathlib.Core.Path.{refl, ◌∙◌}
 use native.Mathlib.Omega.{arith}
-use borrow.Author.Rules.{rules}
 use Rattle.views.proofs.grid.Goals as goal
 
 pub in_front-requires : goal.in_front-requires

@@ -1,6 +1,3 @@
-use Prim.Native.Nat.{◌-◌}
-use mathlib.Core.Path.{◌≡◌}
-use native.Mathlib.Omega.{arith}
 use Rattle.views.proofs.in_front.Goals as goal
 
 pub returns-in-0 : goal.returns-in-0
@@ -14,6 +11,3 @@ returns-in-2 c = rw c.in-2.is
 
 pub returns-in-3 : goal.returns-in-3
 returns-in-3 c = rw c.in-3.is
-
-pub returns-in_default : goal.returns-in_default
-returns-in_default c = let e : c.args.rank ≡ 4 = omega (arith, c.in_default.rest, c.requires) in rw e

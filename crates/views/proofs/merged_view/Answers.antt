@@ -1,6 +1,4 @@
-use Prim.Native.Nat.{◌-◌}
 use borrow.Author.Tests.{eq-eqb, ne_eqb}
-use borrow.Author.Rules.{rules}
 use Rattle.views.proofs.merged_view.Goals as goal
 
 pub returns-then-g-eq1 : goal.returns-then-g-eq1

@@ -1,6 +1,5 @@
 use mathlib.Core.Path.{refl}
 use Rattle.views.proofs.Steps.{picked}
-use borrow.Author.Rules.{rules}
 use Rattle.views.proofs.permute_view.Goals as goal
 
 pub returns : goal.returns

@@ -1,4 +1,3 @@
-use Prim.Native.Nat.{◌-◌}
 use native.Mathlib.Omega.{arith}
 use Rattle.views.specs.Views.{row_place, row_reach}
 use Rattle.views.proofs.Steps.{third_pos, second_pos, first_lt, second_lt, third_lt, span0_lt, span1_lt, span2_lt, row_le}

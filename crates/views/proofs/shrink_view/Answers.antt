@@ -1,7 +1,6 @@
 use mathlib.Core.Path.{ap, ◌∙◌}
 use native.Mathlib.Omega.{arith}
 use Rattle.views.specs.Strides.{dot_of}
-use borrow.Author.Rules.{rules}
 use Rattle.views.proofs.shrink_view.Goals as goal
 
 pub dot-requires : goal.dot-requires

@@ -1,9 +1,7 @@
-use Prim.Native.Nat.{◌-◌}
 use mathlib.Core.Path.{refl}
 use native.Mathlib.Omega.{arith}
 use Rattle.views.specs.Views.{step}
 use Rattle.views.proofs.Steps.{step_le}
-use borrow.Author.Rules.{rules}
 use Rattle.views.proofs.step_at.Goals as goal
 
 pub overflow_mul-result : goal.overflow_mul-result

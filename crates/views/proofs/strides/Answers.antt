@@ -1,7 +1,5 @@
-use Prim.Native.Nat.{◌-◌}
 use native.Mathlib.Omega.{arith}
 use Rattle.views.proofs.Steps.{cube_few, plane_few}
-use borrow.Author.Rules.{rules}
 use Rattle.views.proofs.strides.Goals as goal
 
 pub overflow_mul-plane : goal.overflow_mul-plane

@@ -1,5 +1,3 @@
-use Prim.Native.Nat.{◌-◌}
-use borrow.Author.Rules.{rules}
 use Rattle.views.proofs.up_if.Goals as goal
 
 pub returns-then-on : goal.returns-then-on
