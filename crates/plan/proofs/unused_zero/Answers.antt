@@ -30,4 +30,4 @@ loop-k-preserved c =
 pub returns : goal.returns
 returns c =
     zero_done _ _ c.loop-k.k _ c.loop-k.invariant.1 c.loop-k-test.false
-      (rw (of_z-to_z w64 c.loop-k.bits-bits c.loop-k.auto.bits-fits) at c.loop-k.invariant.2)
+    (rw (of_z-to_z w64 c.loop-k.bits-bits c.loop-k.auto.bits-fits) at c.loop-k.invariant.2)
