@@ -1,6 +1,6 @@
 -- Packed numbers.
-use Rattle.std.specs.Prelude.{ℕ, zero, suc, ◌+◌, ◌*◌, ◌/◌, ◌%◌, Bool, true, false, ◌&&◌, not, cond, List, length, get_or, leb, ltb, eqb, ℤ, pos, negsuc}
-use Rattle.plan.specs.Answers.{Outcome, accepted, refused, refuse, need, and_then}
+use Rattle.std.specs.Prelude.{ℕ, zero, suc, ◌+◌, ◌*◌, ◌/◌, ◌%◌, ◌&&◌, not, cond, List, length, get_or, ltb, eqb, ℤ, pos, negsuc}
+use Rattle.plan.specs.Answers.{Outcome, accepted, refuse, need, and_then}
 
 -- a number that was read, and the position after it
 pub record Read : Type 0 where

@@ -1,11 +1,11 @@
 -- Packed plans.
-use Rattle.std.specs.Prelude.{ℕ, zero, suc, ◌+◌, ◌*◌, ◌/◌, Bool, true, false, ◌&&◌, not, cond, List, [], ◌∷◌, ◌++◌, length, get_or, leb, ltb, eqb, ℤ, pos, negsuc}
+use Rattle.std.specs.Prelude.{ℕ, ◌+◌, ◌*◌, ◌/◌, Bool, ◌&&◌, not, cond, List, [], ◌∷◌, ◌++◌, length, get_or, leb, ltb, eqb, ℤ, pos}
 use Rattle.plan.specs.declared.Answer.{Answer}
 use Rattle.laws.specs.Lists.{all_below}
 use Rattle.plan.specs.Operations.{uses, is_new, in_file}
 use Rattle.plan.specs.Words.{words_per_node, node_limit, size_at, words_of, node_count}
-use Rattle.plan.specs.Answers.{Outcome, accepted, refused, refuse, need, and_then, in_turn, answer_of, buffer_after}
-use Rattle.codec.specs.Numbers.{Read, number_at, word_of}
+use Rattle.plan.specs.Answers.{Outcome, accepted, need, and_then, in_turn, answer_of, buffer_after}
+use Rattle.codec.specs.Numbers.{number_at, word_of}
 
 -- table words that were read, and the position after them
 pub record Unpacked : Type 0 where

@@ -1,5 +1,4 @@
 use Rattle.codec.proofs.Unpacking.{count-laws}
-use borrow.Author.Rules.{rules}
 use Rattle.codec.proofs.count_at.Goals as goal
 
 pub returns-then-count-lt1 : goal.returns-then-count-lt1

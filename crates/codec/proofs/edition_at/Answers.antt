@@ -1,5 +1,4 @@
 use Rattle.codec.proofs.Unpacking.{head-laws}
-use borrow.Author.Rules.{rules}
 use Rattle.codec.proofs.edition_at.Goals as goal
 
 pub returns-then-s-lt1 : goal.returns-then-s-lt1

@@ -1,9 +1,5 @@
-use Prim.Native.Nat.{◌+◌, ◌*◌, ◌%◌, ◌<◌}
-use native.Mathlib.Nat.{mod-lt}
-use native.Mathlib.Omega.{arith}
-use borrow.Author.Rules.{rules}
-use lib.Dec.{lit<}
-use Rattle.codec.proofs.Reading.{Reached, reach_second, reach_next, reach-laws, scale_fits, group_fits}
+use Prim.Native.Nat.{◌<◌}
+use Rattle.codec.proofs.Reading.{Reached}
 use Rattle.codec.proofs.groups.Given as goal
 
 abbrev pub invariant-loop-left : goal.invariant-loop-left

@@ -1,5 +1,4 @@
 use mathlib.Core.Path.{refl}
-use borrow.Author.Rules.{rules}
 use Rattle.plan.specs.Operations.{in_file}
 use Rattle.codec.proofs.in_file.Goals as goal
 

@@ -1,12 +1,10 @@
-use Prim.Native.Nat.{◌-◌, ◌≤◌}
 use mathlib.Core.Path.{◌≡◌, refl, ◌∙◌}
 use native.Mathlib.Omega.{arith}
 use borrow.Author.Rules.{rules}
-use lib.ListN.{length}
 use Rattle.codec.specs.Plans.{read_node, add_node}
 use Rattle.codec.specs.Steps.{nodes_at}
 use Rattle.codec.proofs.Bounds.{nodes_long}
-use Rattle.codec.proofs.Storing.{SoFar, begun, all_read, stopped, turn_reads, turn_stops}
+use Rattle.codec.proofs.Storing.{begun, all_read, stopped, turn_reads, turn_stops}
 use Rattle.codec.proofs.Unpacking.{node_adds}
 use Rattle.codec.proofs.nodes.Goals as goal
 
@@ -18,15 +16,15 @@ pub returns-in-Stop : goal.returns-in-Stop
 unfolding nodes_at
 returns-in-Stop c =
     let l = c.loop-n in
-    stopped (turn_stops (add_node _ _) _ l.n l.invariant.2 (read_node _ _) (node_adds _ _ _) c.node.ensures c.in-Stop.is.1 (omega arith))
+    stopped (turn_stops (add_node _ _) _ l.n l.invariant.2 (read_node _ _) (node_adds _ _ _) c.node.ensures c.in-Stop.is (omega arith))
 
 pub loop-n-preserved : goal.loop-n-preserved
 unfolding nodes_at
 loop-n-preserved c =
     let l = c.loop-n in (
       omega arith,
-      c.node.auto.1.1.1.0 ∙ l.invariant.1,
-      turn_reads (add_node _ _) _ l.n l.invariant.2 (read_node _ _) (node_adds _ _ _) c.node.ensures c.in-Next.is.1
+      c.node.auto.tab ∙ l.invariant.1,
+      turn_reads (add_node _ _) _ l.n l.invariant.2 (read_node _ _) (node_adds _ _ _) c.node.ensures c.in-Next.is
           (omega (arith, nodes_long _ _ _ _ l.invariant.2.read)),
     )
 

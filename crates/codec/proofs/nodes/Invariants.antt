@@ -1,13 +1,8 @@
 use Prim.Native.Nat.{◌-◌, ◌≤◌}
-use mathlib.Core.Path.{◌≡◌, refl, ◌∙◌}
-use native.Mathlib.Omega.{arith}
-use borrow.Author.Rules.{rules}
+use mathlib.Core.Path.{◌≡◌}
 use lib.ListN.{length}
-use Rattle.codec.specs.Plans.{read_node, add_node}
 use Rattle.codec.specs.Steps.{nodes_at}
-use Rattle.codec.proofs.Bounds.{nodes_long}
-use Rattle.codec.proofs.Storing.{SoFar, begun, all_read, stopped, turn_reads, turn_stops}
-use Rattle.codec.proofs.Unpacking.{node_adds}
+use Rattle.codec.proofs.Storing.{SoFar}
 use Rattle.codec.proofs.nodes.Given as goal
 
 abbrev pub invariant-loop-n : goal.invariant-loop-n

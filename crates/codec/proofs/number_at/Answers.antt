@@ -1,4 +1,3 @@
-use borrow.Author.Rules.{rules}
 use Rattle.codec.proofs.Reading.{no_byte, one_byte}
 use Rattle.codec.proofs.number_at.Goals as goal
 

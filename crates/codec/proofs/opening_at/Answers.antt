@@ -1,5 +1,4 @@
 use Rattle.codec.proofs.Unpacking.{open-laws}
-use borrow.Author.Rules.{rules}
 use Rattle.codec.proofs.opening_at.Goals as goal
 
 pub returns-in-Broken : goal.returns-in-Broken

@@ -1,7 +1,6 @@
 use mathlib.Core.Path.{◌∙◌}
 use Rattle.laws.proofs.Machine.{read_back_is, fit_at}
 use Rattle.codec.proofs.Unpacking.{word_broken, word_read, word_unused}
-use borrow.Author.Rules.{rules}
 use Rattle.codec.proofs.word.Goals as goal
 
 pub returns-in-Broken : goal.returns-in-Broken

@@ -1,19 +1,12 @@
-use Prim.Native.Nat.{◌-◌, ◌≤◌, ◌<◌, ◌^◌}
-use mathlib.Core.Path.{◌≡◌, ◌∙◌}
+use Prim.Native.Nat.{◌-◌, ◌≤◌}
+use mathlib.Core.Path.{◌≡◌}
 use mathlib.Core.List.{[], ◌∷◌}
-use native.Mathlib.Omega.{arith}
-use borrow.Author.Rules.{rules}
-use lib.ListN.{length, get_or, length-set}
+use lib.ListN.{length, get_or}
 use lib.IntN.{pos}
-use mir.Syntax.{w64}
-use mir.ValLaws.{to_z_pos}
 use Rattle.plan.specs.Answers.{in_turn}
 use Rattle.plan.specs.Operations.{masks}
 use Rattle.codec.specs.Plans.{read_word}
-use Rattle.codec.specs.Steps.{one_word, node_words}
-use Rattle.codec.proofs.Bounds.{words_long}
-use Rattle.codec.proofs.Storing.{SoFar, stopped, turn_reads, turn_stops}
-use Rattle.codec.proofs.Unpacking.{word_adds, used_is, words_begin, words_end}
+use Rattle.codec.proofs.Storing.{SoFar}
 use Rattle.codec.proofs.words.Given as goal
 
 abbrev pub invariant-loop-k : goal.invariant-loop-k
