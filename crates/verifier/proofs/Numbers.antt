@@ -29,6 +29,7 @@ number_of (rule k false ∷ rules) number n here =
     let this = and_true (leb 1 k) (leb k 12) (and_true (leb 1 k && leb k 12) (numbered rules) n).0 in
     (leb-true 1 k this.0, leb-true k 12 this.1)
 number_of (rule k true ∷ rules) number n (later f) = number_of rules number (and_true (leb 1 k && leb k 12) (numbered rules) n).1 f
+number_of [] number n f = elim f [ ]
 
 -- ---- a plan's nodes, and the place of a refusal
 
