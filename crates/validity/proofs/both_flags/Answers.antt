@@ -1,6 +1,5 @@
 use native.Mathlib.Omega.{arith}
 use Rattle.validity.proofs.Rows.{flags_alike}
-use borrow.Author.Rules.{rules}
 use Rattle.validity.proofs.both_flags.Goals as goal
 
 pub row_flags-requires : goal.row_flags-requires

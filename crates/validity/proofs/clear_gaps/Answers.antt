@@ -1,14 +1,10 @@
-use Prim.Native.Nat.{ℕ, ◌+◌, ◌-◌, ◌≤◌}
-use mathlib.Core.Path.{◌≡◌, refl, ◌∙◌}
+use mathlib.Core.Path.{refl, ◌∙◌}
 use native.Mathlib.Omega.{arith}
 use borrow.Author.Rules.{rules, sfits_of}
 use lib.IntN.{pos}
-use lib.ListN.{length, get_or, length-set}
-use Rattle.laws.specs.Store.{store}
+use lib.ListN.{length-set}
 use Rattle.laws.proofs.Machine.{read_back_is, fit_at}
 use Rattle.laws.proofs.Store.{store_none, store_step, store_done, store_ahead}
-use Rattle.views.specs.Views.{step}
-use Rattle.validity.specs.Flags.{cleared_value}
 use Rattle.validity.proofs.Clearing.{cleared_read}
 use Rattle.validity.proofs.clear_gaps.Goals as goal
 

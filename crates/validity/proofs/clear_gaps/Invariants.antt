@@ -1,15 +1,10 @@
 use Prim.Native.Nat.{ℕ, ◌+◌, ◌-◌, ◌≤◌}
-use mathlib.Core.Path.{◌≡◌, refl, ◌∙◌}
-use native.Mathlib.Omega.{arith}
-use borrow.Author.Rules.{rules, sfits_of}
+use mathlib.Core.Path.{◌≡◌}
 use lib.IntN.{pos}
-use lib.ListN.{length, get_or, length-set}
+use lib.ListN.{length, get_or}
 use Rattle.laws.specs.Store.{store}
-use Rattle.laws.proofs.Machine.{read_back_is, fit_at}
-use Rattle.laws.proofs.Store.{store_none, store_step, store_done, store_ahead}
 use Rattle.views.specs.Views.{step}
 use Rattle.validity.specs.Flags.{cleared_value}
-use Rattle.validity.proofs.Clearing.{cleared_read}
 use Rattle.validity.proofs.clear_gaps.Given as goal
 
 abbrev pub invariant-loop-i : goal.invariant-loop-i

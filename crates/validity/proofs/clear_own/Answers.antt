@@ -1,5 +1,3 @@
-use borrow.Author.Rules.{rules}
-use borrow.Author.Tests.{not-false}
 use Rattle.validity.proofs.Clearing.{unit_near, all_kept, own_cleared}
 use Rattle.validity.proofs.clear_own.Goals as goal
 
@@ -14,4 +12,4 @@ returns-then-not-flags_from c =
 pub returns-else-not-flags_from : goal.returns-else-not-flags_from
 returns-else-not-flags_from c =
     let a = c.args in
-    all_kept a.values.now a.flags.now a.n a.to a.to (c.flags_from.ensures (not-false _ c.if-not-flags_from.false))
+    all_kept a.values.now a.flags.now a.n a.to a.to (c.flags_from.ensures c.if-not-flags_from.false)

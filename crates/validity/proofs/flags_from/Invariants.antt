@@ -1,10 +1,7 @@
 use Prim.Native.Nat.{ℕ, ◌+◌, ◌-◌, ◌≤◌, ◌<◌}
 use mathlib.Core.Path.{◌≡◌}
 use mathlib.Core.Bool.{true}
-use native.Mathlib.Omega.{arith}
-use borrow.Author.Rules.{rules}
 use lib.ListN.{get_or}
-use Rattle.validity.proofs.Clearing.{flags_more}
 use Rattle.validity.proofs.flags_from.Given as goal
 
 abbrev pub invariant-loop-i : goal.invariant-loop-i

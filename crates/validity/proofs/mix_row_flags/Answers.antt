@@ -1,4 +1,3 @@
-use borrow.Author.Rules.{rules}
 use Rattle.validity.proofs.mix_row_flags.Goals as goal
 
 pub both_flags-requires : goal.both_flags-requires

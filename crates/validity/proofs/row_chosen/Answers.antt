@@ -1,12 +1,9 @@
-use Prim.Native.Nat.{ℕ, ◌+◌, ◌-◌, ◌≤◌}
-use mathlib.Core.Path.{◌≡◌, refl, ◌∙◌}
+use Prim.Native.Nat.{◌+◌}
+use mathlib.Core.Path.{refl, ◌∙◌}
 use native.Mathlib.Omega.{arith}
 use borrow.Author.Rules.{rules}
-use lib.ListN.{length, length-set}
-use Rattle.laws.specs.Store.{store}
+use lib.ListN.{length-set}
 use Rattle.laws.proofs.Store.{store_none, store_step, store_done, store_ahead}
-use Rattle.views.specs.Views.{step}
-use Rattle.validity.specs.Flags.{chosen_flag}
 use Rattle.validity.proofs.Rows.{kept, chosen_read}
 use Rattle.validity.proofs.row_chosen.Goals as goal
 

@@ -1,13 +1,10 @@
-use Prim.Native.Nat.{ℕ, ◌+◌, ◌-◌, ◌≤◌}
-use mathlib.Core.Path.{◌≡◌, refl, ◌∙◌}
+use mathlib.Core.Path.{refl, ◌∙◌}
 use native.Mathlib.Omega.{arith}
 use lib.IntN.{pos}
-use lib.ListN.{length, length-set}
-use Rattle.laws.specs.Store.{store}
+use lib.ListN.{length-set}
 use Rattle.laws.proofs.Store.{store_none, store_step, store_done}
-use Rattle.views.specs.Views.{step}
 use Rattle.laws.proofs.Machine.{read_back_is, fit_at}
-use Rattle.validity.specs.Flags.{mix_flag, three}
+use Rattle.validity.specs.Flags.{mix_flag}
 use Rattle.validity.proofs.Rows.{kept, kept_all, three_read}
 use borrow.Author.Rules.{rules}
 use Rattle.validity.proofs.row_flags.Goals as goal

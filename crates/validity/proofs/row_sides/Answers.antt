@@ -1,13 +1,8 @@
-use Prim.Native.Nat.{ℕ, ◌+◌, ◌-◌, ◌≤◌}
-use mathlib.Core.Path.{◌≡◌, refl, ◌∙◌}
+use mathlib.Core.Path.{refl, ◌∙◌}
 use native.Mathlib.Omega.{arith}
 use borrow.Author.Rules.{rules}
-use lib.IntN.{pos}
-use lib.ListN.{length, get_or, length-set}
-use Rattle.laws.specs.Store.{store}
+use lib.ListN.{length-set}
 use Rattle.laws.proofs.Store.{store_none, store_step, store_done}
-use Rattle.views.specs.Views.{step}
-use Rattle.validity.specs.Flags.{side_of}
 use Rattle.validity.proofs.Rows.{side_read}
 use Rattle.validity.proofs.row_sides.Goals as goal
 

@@ -1,5 +1,4 @@
 use mathlib.Core.Path.{refl, ◌∙◌}
-use borrow.Author.Rules.{rules}
 use Rattle.laws.proofs.Machine.{read_back_is, fit_at}
 use Rattle.validity.proofs.Rows.{side_read}
 use Rattle.validity.proofs.side_at.Goals as goal

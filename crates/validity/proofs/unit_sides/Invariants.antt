@@ -1,14 +1,10 @@
 use Prim.Native.Nat.{ℕ, ◌+◌, ◌-◌, ◌≤◌}
-use mathlib.Core.Path.{◌≡◌, refl}
-use native.Mathlib.Omega.{arith}
-use borrow.Author.Rules.{rules}
+use mathlib.Core.Path.{◌≡◌}
 use lib.IntN.{pos}
 use lib.ListN.{length, get_or}
 use Rattle.laws.specs.Store.{store}
-use Rattle.laws.proofs.Store.{store_none, store_done, store_after_store}
-use Rattle.views.specs.Views.{stride_of, step, span}
+use Rattle.views.specs.Views.{stride_of, step}
 use Rattle.validity.specs.Flags.{side_of}
-use Rattle.validity.proofs.Rows.{side_read, unit_step}
 use Rattle.validity.proofs.unit_sides.Given as goal
 
 abbrev pub invariant-loop-i : goal.invariant-loop-i

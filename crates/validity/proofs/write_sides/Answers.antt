@@ -1,5 +1,4 @@
 use native.Mathlib.Omega.{arith}
-use borrow.Author.Rules.{rules}
 use lib.ListN.{length-set}
 use Rattle.validity.proofs.Rows.{store_eight}
 use Rattle.validity.proofs.write_sides.Goals as goal
