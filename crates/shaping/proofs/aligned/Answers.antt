@@ -4,7 +4,6 @@ use native.Mathlib.Omega.{arith}
 use Rattle.shapes.specs.Shown.{shown}
 use Rattle.shaping.proofs.Axes.{shown_ranked}
 use Rattle.shaping.proofs.Alignment.{aligned_front}
-use borrow.Author.Rules.{rules}
 use Rattle.shaping.proofs.aligned.Goals as goal
 
 pub returns-then-n-m : goal.returns-then-n-m

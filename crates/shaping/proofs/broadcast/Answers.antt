@@ -1,5 +1,4 @@
 use Rattle.shaping.proofs.Alignment.{larger_words}
-use borrow.Author.Rules.{rules}
 use Rattle.shaping.proofs.broadcast.Goals as goal
 
 pub returns : goal.returns

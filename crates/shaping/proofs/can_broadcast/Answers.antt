@@ -1,7 +1,6 @@
 use mathlib.Core.Path.{◌∙◌}
 use Rattle.shapes.specs.Shown.{shown}
 use Rattle.shaping.proofs.Alignment.{four_axes, can_words}
-use borrow.Author.Rules.{rules}
 use Rattle.shaping.proofs.can_broadcast.Goals as goal
 
 pub all_below-requires : goal.all_below-requires

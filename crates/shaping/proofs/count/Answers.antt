@@ -3,7 +3,6 @@ use mathlib.Core.List.{[], ◌∷◌}
 use Rattle.laws.specs.Numbering.{count}
 use Rattle.shapes.specs.Rows.{extents_of}
 use Rattle.shapes.specs.Shown.{capped}
-use borrow.Author.Rules.{rules}
 use Rattle.shaping.proofs.count.Goals as goal
 
 pub returns : goal.returns

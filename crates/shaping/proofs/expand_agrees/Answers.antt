@@ -4,7 +4,6 @@ use mathlib.Core.Bool.{◌||◌}
 use lib.Dec.{eqb}
 use native.Mathlib.Omega.{arith}
 use Rattle.shaping.proofs.Axes.{shown_ranked, ranks_same, ranks_differ}
-use borrow.Author.Rules.{rules}
 use Rattle.shaping.proofs.expand_agrees.Goals as goal
 
 pub returns-then-n-m : goal.returns-then-n-m

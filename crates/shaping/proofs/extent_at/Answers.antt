@@ -1,5 +1,4 @@
 use Rattle.shaping.proofs.Axes.{word_none}
-use borrow.Author.Rules.{rules}
 use Rattle.shaping.proofs.extent_at.Goals as goal
 
 pub returns : goal.returns

@@ -5,7 +5,6 @@ use Rattle.shapes.specs.Rules.{word_of}
 use Rattle.shapes.specs.Shown.{words_in}
 use native.Mathlib.Omega.{arith}
 use Rattle.shaping.proofs.Axes.{shown_ranked, ranks_same, ranks_differ}
-use borrow.Author.Rules.{rules}
 use Rattle.shaping.proofs.fits.Goals as goal
 
 pub returns-then-n-m : goal.returns-then-n-m

@@ -4,7 +4,6 @@ use mathlib.Core.List.{List}
 use Rattle.laws.specs.Numbering.{count}
 use Rattle.shapes.specs.Shown.{capped}
 use Rattle.shaping.proofs.Flags.{gathered_words}
-use borrow.Author.Rules.{rules}
 use Rattle.shaping.proofs.gathered_count.Goals as goal
 
 pub returns : goal.returns

@@ -1,5 +1,4 @@
 use Rattle.shaping.proofs.Rule8.{narrow_movement, narrow_offsets, movement-laws}
-use borrow.Author.Rules.{rules}
 use Rattle.shaping.proofs.movement_agrees.Goals as goal
 
 pub narrow-r-requires : goal.narrow-r-requires

@@ -1,5 +1,4 @@
 use Rattle.shaping.proofs.Axes.{permuted_words}
-use borrow.Author.Rules.{rules}
 use Rattle.shaping.proofs.permuted.Goals as goal
 
 pub returns : goal.returns

@@ -1,5 +1,4 @@
 use Rattle.shaping.proofs.Flags.{reduced_words}
-use borrow.Author.Rules.{rules}
 use Rattle.shaping.proofs.reduced.Goals as goal
 
 pub returns : goal.returns

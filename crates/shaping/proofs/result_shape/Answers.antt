@@ -1,12 +1,11 @@
 use Rattle.shaping.proofs.Rule8.{narrow_result, result-laws}
-use borrow.Author.Rules.{rules}
 use Rattle.shaping.proofs.result_shape.Goals as goal
 
 pub returns-then-op-eq0 : goal.returns-then-op-eq0
 returns-then-op-eq0 c = search result-laws
 
 pub permuted-requires : goal.permuted-requires
-permuted-requires c = c.requires.1.0 c.if-op-eq2.true
+permuted-requires c = c.requires.rowa_value c.if-op-eq2.true
 
 pub returns-then-op-eq2 : goal.returns-then-op-eq2
 returns-then-op-eq2 c = search result-laws
@@ -35,7 +34,7 @@ returns-then-op-eq19 c = search result-laws
 pub stacked-requires : goal.stacked-requires
 stacked-requires c =
     let pre = c.requires in
-    (c.if-op-eq23.true, (pre.0, pre.1.1 c.if-op-eq23.true))
+    record { op_value = c.if-op-eq23.true; tested = pre.tested; s_len_bound = pre.a_len_bound c.if-op-eq23.true }
 
 pub returns-then-op-eq23 : goal.returns-then-op-eq23
 returns-then-op-eq23 c = c.stacked.ensures _ _

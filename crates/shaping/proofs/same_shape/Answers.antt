@@ -3,7 +3,6 @@ use lib.Dec.{eqb}
 use native.Mathlib.Omega.{arith}
 use Rattle.shapes.specs.Rules.{same_shape}
 use Rattle.shaping.proofs.Axes.{shown_ranked, ranks_same, ranks_differ}
-use borrow.Author.Rules.{rules}
 use Rattle.shaping.proofs.same_shape.Goals as goal
 
 pub returns-then-n-m : goal.returns-then-n-m

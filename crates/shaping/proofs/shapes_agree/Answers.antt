@@ -1,5 +1,4 @@
 use Rattle.shaping.proofs.Rule8.{agree-laws}
-use borrow.Author.Rules.{rules}
 use Rattle.shaping.proofs.shapes_agree.Goals as goal
 
 pub returns-then-op-lt4 : goal.returns-then-op-lt4

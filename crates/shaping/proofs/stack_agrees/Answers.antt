@@ -1,5 +1,4 @@
 use Rattle.shaping.proofs.Rule8.{agree_stack}
-use borrow.Author.Rules.{rules}
 use Rattle.shaping.proofs.stack_agrees.Goals as goal
 
 pub returns : goal.returns

@@ -1,7 +1,6 @@
 use native.Mathlib.Omega.{arith}
 use Rattle.laws.proofs.Machine.{read_back_is, fit_at}
 use Rattle.shaping.proofs.Rule8.{stack_words}
-use borrow.Author.Rules.{rules}
 use Rattle.shaping.proofs.stacked.Goals as goal
 
 pub overflow_cast-result : goal.overflow_cast-result
@@ -9,11 +8,11 @@ overflow_cast-result c =
     let x = c.args.x in
     let told = c.struct_told-1.given in
     let e = rw (read_back_is (fit_at x.number told.1.1.1.1.1.0.1)) at c.size_of_word-m.ensures in
-    omega (arith, e, (c.requires.1.0.stacked c.requires.0).1)
+    omega (arith, e, (c.requires.tested.stacked c.requires.op_value).1)
 
 pub returns : goal.returns
 returns c t u =
     let x = c.args.x in
     let told = c.struct_told-1.given in
     let e = rw (read_back_is (fit_at x.number told.1.1.1.1.1.0.1)) at c.size_of_word-m.ensures in
-    stack_words x _ t u c.requires.0 c.requires.1.0 c.requires.1.1 e
+    stack_words x _ t u c.requires.op_value c.requires.tested c.requires.s_len_bound e
