@@ -26,8 +26,8 @@ HAVE_LIBPNG = pkg-config --exists libpng 2>/dev/null || tools/setup libpng-dev p
 # The version is said in the header alone.
 VERSION := $(shell sed -n 's/^\#define LUP_VERSION_[MP][A-Z]* //p' $(HEADER) | paste -sd.)
 SONAME = liblupetzarin.so.$(firstword $(subst ., ,$(VERSION)))
-# Directories too: their times change where a file comes or goes.
-SOURCES = $(shell find crates) crates.txt TOOLCHAIN
+# Directories too: their times change where a file comes or goes. A crate's own one is left out, as rt makes out/ in it.
+SOURCES = $(shell find crates -mindepth 2 -name out -prune -o -print) crates.txt TOOLCHAIN
 
 all: $(ARCHIVE) $(SHARED) $(LIST) $(LUP)
 
@@ -35,18 +35,19 @@ all: $(ARCHIVE) $(SHARED) $(LIST) $(LUP)
 $(ARCHIVE): $(SOURCES)
 	@mkdir -p build
 	@echo "proving and compiling the library (from nothing some six minutes; build/library.log)"
-	@rt staticlib lupetzarin >build/library.log 2>&1 || { tail -n 40 build/library.log; exit 1; }
-	@cp target/staticlib/liblupetzarin.a $@
+	@cd crates/lupetzarin && rt lib >../../build/library.log 2>&1 || { tail -n 40 ../../build/library.log; exit 1; }
+	@cp crates/lupetzarin/out/liblupetzarin.a $@
 
 # The calls of the header alone are exported, with their versions; a name that is wanted or listed and that nothing defines is an error.
 $(SHARED): $(ARCHIVE) packaging/lupetzarin.map $(HEADER)
 	$(CC) -shared -o $@ -Wl,-soname,$(SONAME) -Wl,--version-script=packaging/lupetzarin.map -Wl,--no-undefined-version -Wl,-z,defs \
 	    -Wl,--whole-archive $(ARCHIVE) -Wl,--no-whole-archive
 
+# rt builds a program where it runs it: here on no bytes.
 $(LIST): $(SOURCES)
 	@mkdir -p build
-	@rt check list >build/list.log 2>&1 || { tail -n 40 build/list.log; exit 1; }
-	@cp target/bin/list $@
+	@cd crates/list && rt run </dev/null >../../build/list.log 2>&1 || { tail -n 40 ../../build/list.log; exit 1; }
+	@cp crates/list/out/list $@
 
 $(LUP): $(HOST_SOURCES) $(HOST_HEADERS) $(ARCHIVE)
 	@$(HAVE_LIBPNG)
@@ -154,4 +155,4 @@ uninstall: expect_directories
 	rm -f $(call under,$(INSTALLED))
 
 clean:
-	rm -rf build target
+	rm -rf build crates/*/out

@@ -90,6 +90,13 @@ holds() {
     fi
 }
 
+# none_bad LOG: whether rt ci, which wrote this log, refused every must-fail edit for what it says. It passes where an edit cannot be applied or
+# read, and counts it as bad in the one line that begins with 'rt: ok'.
+none_bad() {
+    grep -a 'BAD EDIT\|^rt: ok' "$1"
+    [ "$(grep -ac '^rt: ok' "$1")" -eq 1 ] && ! grep -aE '^rt: ok.*, [0-9]+ bad' "$1" >/dev/null
+}
+
 # finish: waits for what still runs; then the summed line, or what failed and status 1
 finish() {
     collect

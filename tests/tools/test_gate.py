@@ -131,6 +131,39 @@ def test_checks(tally):
         tally.same((way, 'no command'), told(f'{way} made\nfinish')[1].split('\n')[-2], 'FAILED: made')
 
 
+# What rt ci writes before its last line, and whether that tells that no must-fail edit is bad.
+TOLD = 'rt: ok; handles allowed: none; must-fail edits: 102 refused'
+EVERY = '; every proof and must-fail edit was done in this run'
+EDITS = (
+    (('rt: plan/u8_range.edit: refused', TOLD + EVERY), True),
+    ((TOLD + ', 2 of them only by a limit' + EVERY,), True),
+    (('rt: a note, 3 bad', TOLD + EVERY), True),
+    (('rt: ok; handles allowed: none' + EVERY,), True),
+    (('plan/u8_range.edit: BAD EDIT: it has no line', TOLD + ', 1 bad' + EVERY), False),
+    ((TOLD + ', 2 of them only by a limit, 10 bad' + EVERY,), False),
+    (('rt: ok; handles allowed: none; must-fail edits: 0 refused, 1 bad' + EVERY,), False),
+    (('rt: FAILED: plan',), False),
+    ((), False),
+    (('words ' + TOLD + EVERY,), False),
+    ((TOLD + EVERY, TOLD + ', 1 bad' + EVERY), False),
+    ((TOLD + EVERY, TOLD + EVERY), False),
+)
+
+
+def test_edits(tally):
+    """The check of what the step `proofs` wrote, by its log."""
+    for lines, good in EDITS:
+        does = f'printf %s {quote(shown(*lines, "134 passed, 0 failed"))}'
+        status, text = told(f'step proofs sh -c {quote(does)}\nholds edits none_bad "$logs/proofs"\nfinish')
+        wanted = (0, ['== edits: holds', '135 passed, 0 failed', '']) if good else (1, ['FAILED: edits', ''])
+        tally.same(('edits', lines), (status, text.split('\n')[-3 if good else -2:]), wanted)
+    status, text = told('holds edits none_bad "$logs/proofs"\nfinish')
+    tally.same('no step before', (status, text.split('\n')[-2]), (1, 'FAILED: edits'))
+    does = f'printf %s {quote(shown(*EDITS[4][0], "134 passed, 0 failed"))}'
+    text = told(f'step proofs sh -c {quote(does)}\nholds edits none_bad "$logs/proofs"\nfinish')[1]
+    tally.same('what is told of it', text.split('\n')[2:-2], ['    ' + line for line in EDITS[4][0]])
+
+
 def test_sums(tally):
     steps = shown('beside a sh -c "sleep 0.2; echo 1 passed, 0 failed"', 'beside b echo 20 passed, 0 failed',
                   'step c echo 300 passed, 0 failed')
@@ -186,6 +219,8 @@ def test_run(tally):
     paths = {*glob.glob('tests/*/test_*.py', root_dir=ROOT), *glob.glob('tests/tools/*.py', root_dir=ROOT)}
     for path in sorted(paths - {'tests/tools/counting.py'}):
         tally.holds((path, 'is run'), f' python3 {path}' in text or f' /usr/bin/python3 {path}\n' in text)
+    tally.same('the proofs', re.findall(r'(?m)^.*(?<![\w-])rt (?!version).*$', text), ['step proofs rt ci'])
+    tally.holds('no must-fail edit is bad', '\nstep proofs rt ci\nholds edits none_bad "$logs/proofs"\n' in text)
     for path in ('tests/python/test_python.py', 'tests/python/test_cluster.py', 'tests/host/test_install.py'):
         tally.holds((path, 'by the system\'s own Python'), f' /usr/bin/python3 {path}\n' in text)
     with open(os.path.join(ROOT, 'Makefile'), encoding='utf-8') as file:
@@ -293,7 +328,7 @@ def test_map(tally):
 
 def main():
     tally = Tally()
-    for test in (test_steps, test_shown, test_checks, test_sums, test_cases, test_run, test_setup, test_map):
+    for test in (test_steps, test_shown, test_checks, test_edits, test_sums, test_cases, test_run, test_setup, test_map):
         test(tally)
     tally.finish()
 
