@@ -10,5 +10,5 @@ copy_flags-requires c =
 
 pub returns : goal.returns
 returns c =
-    band_laid 0 _ c.args c.args.n c.args.p c.args.to c.args.width c.requires.0 c.requires.1 c.fill_flags.ensures
+    band_laid 0 _ c.args.before c.args.n c.args.p c.args.to c.args.width c.requires.0 c.requires.1 c.fill_flags.ensures
     c.copy_flags.ensures c.fill_flags-2.ensures

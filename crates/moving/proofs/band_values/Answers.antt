@@ -11,5 +11,5 @@ copy_values-requires c =
 
 pub returns : goal.returns
 returns c =
-    band_laid (pos 0) _ c.args c.args.n c.args.p c.args.to c.args.width c.requires.0 c.requires.1 c.fill_values.ensures
+    band_laid (pos 0) _ c.args.before c.args.n c.args.p c.args.to c.args.width c.requires.0 c.requires.1 c.fill_values.ensures
     c.copy_values.ensures c.fill_values-2.ensures

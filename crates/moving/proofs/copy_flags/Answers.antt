@@ -1,8 +1,6 @@
-use Prim.Native.Nat.{ℕ, ◌+◌, ◌-◌, ◌≤◌}
+use Prim.Native.Nat.{◌+◌}
 use mathlib.Core.Path.{◌≡◌, refl}
 use native.Mathlib.Omega.{arith}
-use lib.ListN.{length, get_or}
-use Rattle.laws.specs.Store.{store}
 use Rattle.laws.proofs.Store.{store_none, store_step, store_load, store_done}
 use Rattle.views.specs.Views.{step}
 use borrow.Author.Rules.{rules}

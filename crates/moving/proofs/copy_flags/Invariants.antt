@@ -1,11 +1,8 @@
 use Prim.Native.Nat.{ℕ, ◌+◌, ◌-◌, ◌≤◌}
-use mathlib.Core.Path.{◌≡◌, refl}
-use native.Mathlib.Omega.{arith}
+use mathlib.Core.Path.{◌≡◌}
 use lib.ListN.{length, get_or}
 use Rattle.laws.specs.Store.{store}
-use Rattle.laws.proofs.Store.{store_none, store_step, store_load, store_done}
 use Rattle.views.specs.Views.{step}
-use borrow.Author.Rules.{rules}
 use Rattle.moving.proofs.copy_flags.Given as goal
 
 abbrev pub invariant-loop-i : goal.invariant-loop-i

@@ -1,13 +1,9 @@
 use Prim.Native.Nat.{ℕ, ◌+◌, ◌-◌, ◌≤◌}
-use mathlib.Core.Path.{◌≡◌, refl, ◌∙◌}
-use native.Mathlib.Omega.{arith}
-use mir.Facts.{to_z-of_z}
+use mathlib.Core.Path.{◌≡◌}
 use lib.IntN.{pos}
 use lib.ListN.{length, get_or}
 use Rattle.laws.specs.Store.{store}
-use Rattle.laws.proofs.Store.{store_none, store_step, store_load, store_done}
 use Rattle.views.specs.Views.{step}
-use borrow.Author.Rules.{rules}
 use Rattle.moving.proofs.copy_values.Given as goal
 
 abbrev pub invariant-loop-i : goal.invariant-loop-i

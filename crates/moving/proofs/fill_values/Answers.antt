@@ -1,8 +1,4 @@
-use Prim.Native.Nat.{ℕ, ◌-◌, ◌≤◌}
-use mathlib.Core.Path.{◌≡◌, refl}
-use lib.IntN.{pos}
-use lib.ListN.{length}
-use Rattle.laws.specs.Store.{store}
+use mathlib.Core.Path.{refl}
 use Rattle.laws.proofs.Store.{store_none, store_step, store_done}
 use borrow.Author.Rules.{rules}
 use Rattle.moving.proofs.fill_values.Goals as goal

@@ -1,11 +1,7 @@
-use Prim.Native.Nat.{ℕ, ◌+◌, ◌*◌, ◌-◌, ◌≤◌}
 use mathlib.Core.Path.{◌≡◌, refl}
 use native.Mathlib.Omega.{arith}
-use lib.ListN.{length, get_or}
-use Rattle.laws.specs.Store.{store}
 use native.Mathlib.Nat.{zero-mul}
 use Rattle.laws.proofs.Store.{store_none, length_store}
-use Rattle.views.specs.Views.{place}
 use Rattle.views.proofs.RowPlaces.{rows_below, row_below, next_block, block_fits}
 use Rattle.moving.proofs.Moves.{move_turn}
 use borrow.Author.Rules.{rules}

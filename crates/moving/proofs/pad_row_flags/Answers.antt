@@ -1,7 +1,5 @@
 use native.Mathlib.Omega.{arith}
-use borrow.Author.Tests.{not-true, not-false}
 use Rattle.moving.proofs.Bands.{row_outside, row_laid}
-use borrow.Author.Rules.{rules}
 use Rattle.moving.proofs.pad_row_flags.Goals as goal
 
 pub returns-then-not-row_inside : goal.returns-then-not-row_inside

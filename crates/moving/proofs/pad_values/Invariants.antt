@@ -1,16 +1,10 @@
 use Prim.Native.Nat.{ℕ, ◌+◌, ◌*◌, ◌-◌, ◌≤◌}
-use mathlib.Core.Path.{◌≡◌, refl}
-use native.Mathlib.Omega.{arith}
-use native.Mathlib.Nat.{zero-mul}
+use mathlib.Core.Path.{◌≡◌}
 use lib.IntN.{pos}
 use lib.ListN.{length}
 use Rattle.laws.specs.Store.{store}
-use Rattle.laws.proofs.Store.{store_none, length_store}
 use Rattle.views.specs.Walks.{band_place}
-use Rattle.views.proofs.RowPlaces.{next_block, block_fits}
 use Rattle.moving.specs.Moved.{fetch}
-use Rattle.moving.proofs.Bands.{pad_turn}
-use borrow.Author.Rules.{rules}
 use Rattle.moving.proofs.pad_values.Given as goal
 
 abbrev pub invariant-loop-i : goal.invariant-loop-i

@@ -1,4 +1,3 @@
-use borrow.Author.Rules.{rules}
 use Rattle.moving.proofs.row_flags.Goals as goal
 
 pub copy_flags-requires : goal.copy_flags-requires

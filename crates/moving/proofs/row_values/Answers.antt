@@ -1,4 +1,3 @@
-use borrow.Author.Rules.{rules}
 use Rattle.moving.proofs.row_values.Goals as goal
 
 pub copy_values-requires : goal.copy_values-requires
