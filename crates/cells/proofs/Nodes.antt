@@ -1,7 +1,7 @@
 -- A node's cells: exactly its count of them, each by its rule.
 use Prim.Native.Nat.{ℕ, zero, suc, ◌<◌, ◌≤◌}
-use mathlib.Core.Path.{◌≡◌, refl}
-use mathlib.Core.List.{List, []}
+use mathlib.Core.Path.{◌≡◌}
+use mathlib.Core.List.{List}
 use lib.ListN.{length, get_or}
 use Rattle.laws.specs.Lists.{tab}
 use Rattle.laws.specs.Numbering.{count}

@@ -1,5 +1,5 @@
 use Rattle.laws.proofs.Machine.{read_back_is}
-use Rattle.bounds.proofs.Floors.{quotient_fits, less_fits, below_is, above_is}
+use Rattle.bounds.proofs.Floors.{quotient_fits, below_is, above_is}
 use Rattle.bounds.proofs.floor_by.Goals as goal
 
 pub distance-requires : goal.distance-requires
@@ -7,9 +7,6 @@ distance-requires c = rw (read_back_is c.ranges.a) c.requires.0
 
 pub overflow_cast-q : goal.overflow_cast-q
 overflow_cast-q c = quotient_fits c.ranges.a c.requires.0 c.args.b _ c.distance.ensures
-
-pub overflow_sub-result : goal.overflow_sub-result
-overflow_sub-result c = less_fits c.ranges.a c.requires.0 c.args.b _ c.distance.ensures
 
 pub returns-then-a-lt0 : goal.returns-then-a-lt0
 returns-then-a-lt0 c = below_is c.ranges.a c.requires.0 c.args.b _ c.distance.ensures c.if-a-lt0.true
