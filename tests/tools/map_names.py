@@ -13,6 +13,7 @@ Items of a cell stand between semicolons; words in parentheses may follow a name
                all; all calls; every call; (02 ..)
   shown by     crate/File: name, name        of crates/crate/proofs/File.antt
                crate/Facts; Tables of crate, crate; proofs of crate, crate/function
+                                           (a function of the crate's code: most prove with no file of their own)
                crate must-fail edit, edit; model test name; a file or a folder
                further; marked ●; agreement; vectors; by type
   cited by     crate, crate; `function`, `function`; crate/File: name; crate must-fail edit, edit
@@ -44,6 +45,7 @@ DEFINED = re.compile(r'(?:(?:abbrev |unfoldable )?(?:pub )?(\S+) :(?:\s|$)|(?:pu
 PART = re.compile(r'^ +(?:pub )?([^\s(]\S*) :(?:\s|$)', re.M)
 DECLARED = re.compile(r'^(?:pub )?(?:extern "C" )?(?:fn|struct|enum|const) (\w+)', re.M)
 PUBLIC = re.compile(r'^pub fn (\w+)', re.M)
+FUNCTION = re.compile(r'^(?:pub )?(?:extern "C" )?fn (\w+)', re.M)
 C_FUNCTION = re.compile(r'^[a-z][\w ]*[ *](\w+)\(', re.M)
 # `..`; crate/File: name; a path; words with a capital inside, with a _ or a -; words in capitals
 LIKE_A_NAME = re.compile(r'`[^`]*`|[a-z]+/(?:[A-Z]\w*|lib\.rt): [\w-]+|[\w.-]+(?:/[\w.-]+)+'
@@ -115,7 +117,7 @@ def there(name):
              at('crates', crate, 'src', file)]
     if part:
         return any(part in defined(text) | found(DECLARED, text) for text in texts)
-    return any(map(os.path.exists, (*texts, at(path), at('crates', crate, 'proofs', file, 'Proof.antt'))))
+    return any(map(os.path.exists, (*texts, at(path)))) or file in code(crate, FUNCTION)
 
 
 # -------------------------------------------------------------- parts of a cell
@@ -225,7 +227,7 @@ def file_or_facts(item):
     """crate/Facts; a file or a folder"""
     name, notes = noted(item)
     if re.fullmatch(r'[a-z]+/Facts', name):
-        return [(name, 'facts-hold' in defined(at('crates', name.replace('/', '/proofs/') + '.antt'))), *notes]
+        return [(name, 'facts_hold' in defined(at('crates', name.replace('/', '/proofs/') + '.antt'))), *notes]
     if re.fullmatch(r'[\w.-]+\.md|[\w-]+(?:/[\w.-]+)+', name):
         return [(name, os.path.exists(at(name))), *notes]
     return None

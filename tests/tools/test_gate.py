@@ -279,27 +279,27 @@ def test_setup(tally):
 
 
 HEAD = '| 01 says | definition | contract | shown by |\n|---|---|---|---|\n'
-ROW = ('"A sentence."', 'plan/Words: nodeOf, nodeAt (of `node_at`)', '`check`',
-       'plan/Facts; plan must-fail u8_range; tests/run')
+ROW = ('"A sentence."', 'plan/Words: node_of, node_at (of `node_at`)', '`check`',
+       'plan/Facts; proofs of verifier/unpack_check; plan must-fail u8_range; tests/run')
 # Cells that have to be refused, by column.
 WRONG = {
-    1: ('', 'nodeOf', 'words', 'plan/Words', 'plan/Words: nodeOff', 'plan/Word: nodeOf', 'plans/Words: nodeOf',
-        'plan/Words: nodeOf and nodeAt', 'plan/Words: nodeOf,', 'plan/Words: nodeOf (a) b', 'plan/Words: nodeOf (a',
-        'plan/Words: nodeOf (as noSuchName)', 'plan/Words: nodeOf (`no_such`)', 'plan/Masks: mask-bit',
-        'plan/lib.rt: Nodes', 'code: `derived` (verifier/lib.rt)', 'code: `derive`'),
+    1: ('', 'node_of', 'words', 'plan/Words', 'plan/Words: node_off', 'plan/Word: node_of', 'plans/Words: node_of',
+        'plan/Words: node_of and node_at', 'plan/Words: node_of,', 'plan/Words: node_of (a) b', 'plan/Words: node_of (a',
+        'plan/Words: node_of (as noSuchName)', 'plan/Words: node_of (as no_such_name)', 'plan/Words: node_of (`no_such`)',
+        'plan/Masks: mask_bit', 'plan/lib.rt: Nodes', 'code: `derived` (verifier/lib.rt)', 'code: `derive`'),
     2: ('', 'check', '`none`', '`check` `run`', '`check` and `run`', '`size_at`', 'all the calls', '`check'),
-    3: ('', 'NONE.md', 'tests/none.py', 'plan/Fact', 'laws/Facts', 'verifier/Nodes: none', 'plan/Words: nodeOf',
+    3: ('', 'NONE.md', 'tests/none.py', 'plan/Fact', 'laws/Facts', 'verifier/Nodes: none', 'plan/Words: node_of',
         'plan must-fail no_such', 'plan must-fail', 'plans must-fail u8_range', 'further words',
         'further (noSuchName)', 'model test none', 'Tables of plan', 'proofs of plans', 'proofs of verifier/none',
-        'agreement, vectors'),
+        'proofs of plan/Node', 'agreement, vectors'),
 }
 # The same of the table of wrong definitions.
 OTHER_HEAD = '| wrong definition | statement | theorem |\n|---|---|---|\n'
-OTHER_ROW = 'testInput for a flag', 'plan/Words: nodeOf (`node_at`); plan/lib.rt: Node', 'plan/Masks: mask-bit; further'
+OTHER_ROW = 'test_input for a flag', 'plan/Words: node_of (`node_at`); plan/lib.rt: Node', 'plan/Masks: mask_bit; further'
 OTHER_WRONG = {
-    0: ('noSuchName', '`no_such`', 'plan/Words: nodeOff'),
-    1: ('', 'words', 'plan/Words: nodeOff', 'plan/Masks: mask-bit', 'further'),
-    2: ('', 'words', 'plan/Masks: mask-bits', 'plan/Words: nodeOf', 'plan must-fail no_such', '`check`'),
+    0: ('noSuchName', '`no_such`', 'plan/Words: node_off'),
+    1: ('', 'words', 'plan/Words: node_off', 'plan/Masks: mask_bit', 'further'),
+    2: ('', 'words', 'plan/Masks: mask_bits', 'plan/Words: node_of', 'plan must-fail no_such', '`check`'),
 }
 
 
@@ -316,7 +316,7 @@ def map_told(head, *rows):
 
 def test_map(tally):
     """A row whose citations are there; then that row with one cell wrong, which has to be named by its line."""
-    for head, good, wrong, count in (HEAD, ROW, WRONG, 7), (OTHER_HEAD, OTHER_ROW, OTHER_WRONG, 6):
+    for head, good, wrong, count in (HEAD, ROW, WRONG, 8), (OTHER_HEAD, OTHER_ROW, OTHER_WRONG, 6):
         tally.same(('a good row', good), map_told(head, good), (0, [f'{count} passed, 0 failed', '']))
         tally.same(('a cell too many', good), map_told(head, [*good, 'more'])[0], 1)
         rows = [[*good[:column], cell, *good[column + 1:]] for column, cells in wrong.items() for cell in cells]
