@@ -1,7 +1,7 @@
 -- Rules 2, 3 and 25 of a node, from the tests that the code makes in turn.
 use Prim.Native.Nat.{ℕ, zero, suc, ◌+◌, ◌<◌, ◌≤◌}
-use mathlib.Core.Path.{◌≡◌, refl, ◌∙◌}
-use mathlib.Core.Bool.{Bool, true, false, ◌&&◌, ◌||◌, not}
+use mathlib.Core.Path.{◌≡◌, refl, sym, ◌∙◌}
+use mathlib.Core.Bool.{Bool, true, false, ◌&&◌, ◌||◌}
 use mathlib.Core.List.{List}
 use native.Mathlib.Numerals.{add-one}
 use native.Mathlib.Omega.{arith}
@@ -9,7 +9,7 @@ use borrow.Author.Tests.{eqb-true}
 use lib.Dec.{eqb, eqb-suc-zero}
 use lib.IntN.{ℤ, pos, negsuc}
 use Rattle.laws.specs.Lists.{all_below}
-use Rattle.laws.proofs.Booleans.{bool_cases, all_below_lem, all_below_snoc, all_below_same, off, on}
+use Rattle.laws.proofs.Booleans.{bool_cases, all_below_lem, all_below_snoc, all_below_same}
 use Rattle.plan.specs.Operations.{uses, is_operation, operation_count}
 use Rattle.plan.specs.Types.{holds}
 use Rattle.plan.proofs.ByOperation.{operation_small}
@@ -64,22 +64,22 @@ module _ (w : List ℤ) {op : ℕ} (is : op ≡ size_at w 0) where
     is_2 : r2 ≡ is_operation (size_at w 0)
     is_2 = e2 ∙ rw is refl
 
-    pub breaks_2 : not r2 ≡ true → Breaks w 2
-    breaks_2 f = only (omega arith) (fails_here _ (off r2 is_2 f))
+    pub breaks_2 : r2 ≡ false → Breaks w 2
+    breaks_2 f = only (omega arith) (fails_here _ (sym is_2 ∙ f))
 
-    module _ (n2 : not r2 ≡ false) (r3 : Bool) (e3 : r3 ≡ unused_zero op w) where
+    module _ (n2 : r2 ≡ true) (r3 : Bool) (e3 : r3 ≡ unused_zero op w) where
       is_3 : r3 ≡ unused_zero (size_at w 0) w
       is_3 = e3 ∙ rw is refl
 
-      pub breaks_3 : not r3 ≡ true → Breaks w 3
-      breaks_3 f = only (omega arith) (holds_then _ (on r2 is_2 n2) (fails_here _ (off r3 is_3 f)))
+      pub breaks_3 : r3 ≡ false → Breaks w 3
+      breaks_3 f = only (omega arith) (holds_then _ (sym is_2 ∙ n2) (fails_here _ (sym is_3 ∙ f)))
 
-      module _ (n3 : not r3 ≡ false) (r25 : Bool) (e25 : r25 ≡ all_in_range w) where
+      module _ (n3 : r3 ≡ true) (r25 : Bool) (e25 : r25 ≡ all_in_range w) where
         is_25 : r25 ≡ used_in_range (size_at w 0) w
-        is_25 = e25 ∙ all_used op w is (operation_small op (on r2 e2 n2)) (on r3 e3 n3) ∙ rw is refl
+        is_25 = e25 ∙ all_used op w is (operation_small op (sym e2 ∙ n2)) (sym e3 ∙ n3) ∙ rw is refl
 
-        pub breaks_25 : not r25 ≡ true → Breaks w 25
-        breaks_25 f = only (omega arith) (holds_then _ (on r2 is_2 n2) (holds_then _ (on r3 is_3 n3) (fails_here _ (off r25 is_25 f))))
+        pub breaks_25 : r25 ≡ false → Breaks w 25
+        breaks_25 f = only (omega arith) (holds_then _ (sym is_2 ∙ n2) (holds_then _ (sym is_3 ∙ n3) (fails_here _ (sym is_25 ∙ f))))
 
-        pub breaks_none : not r25 ≡ false → Breaks w 0
-        breaks_none n25 = record { meets = λ z. (on r2 is_2 n2, (on r3 is_3 n3, (on r25 is_25 n25, tt))); breaks = λ n. absurd (n refl) }
+        pub breaks_none : r25 ≡ true → Breaks w 0
+        breaks_none n25 = record { meets = λ z. (sym is_2 ∙ n2, (sym is_3 ∙ n3, (sym is_25 ∙ n25, tt))); breaks = λ n. absurd (n refl) }

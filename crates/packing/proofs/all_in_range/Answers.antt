@@ -1,14 +1,12 @@
-use Prim.Native.Nat.{◌≤◌, ◌-◌}
-use mathlib.Core.Path.{◌≡◌, ◌∙◌, ap}
+use mathlib.Core.Path.{◌∙◌, ap}
 use native.Mathlib.Omega.{arith}
 use borrow.Author.Rules.{rules}
 use lib.IntN.{pos}
 use lib.ListN.{get_or}
-use Rattle.laws.specs.Lists.{all_below}
 use Rattle.laws.proofs.Machine.{read_back_is, fit_at}
 use Rattle.plan.specs.Types.{holds}
 use Rattle.packing.specs.Packing.{word_range}
-use Rattle.packing.proofs.Breaking.{in_range_at, range_none, range_more, range_done}
+use Rattle.packing.proofs.Breaking.{range_none, range_more, range_done}
 use Rattle.packing.proofs.all_in_range.Goals as goal
 
 pub loop-k-init : goal.loop-k-init

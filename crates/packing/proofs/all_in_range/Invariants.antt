@@ -1,14 +1,7 @@
 use Prim.Native.Nat.{◌≤◌, ◌-◌}
-use mathlib.Core.Path.{◌≡◌, ◌∙◌, ap}
-use native.Mathlib.Omega.{arith}
-use borrow.Author.Rules.{rules}
-use lib.IntN.{pos}
-use lib.ListN.{get_or}
+use mathlib.Core.Path.{◌≡◌}
 use Rattle.laws.specs.Lists.{all_below}
-use Rattle.laws.proofs.Machine.{read_back_is, fit_at}
-use Rattle.plan.specs.Types.{holds}
-use Rattle.packing.specs.Packing.{word_range}
-use Rattle.packing.proofs.Breaking.{in_range_at, range_none, range_more, range_done}
+use Rattle.packing.proofs.Breaking.{in_range_at}
 use Rattle.packing.proofs.all_in_range.Given as goal
 
 abbrev pub invariant-loop-k : goal.invariant-loop-k

@@ -1,5 +1,4 @@
-use borrow.Author.Rules.{rules}
-use Rattle.laws.proofs.Booleans.{on}
+use mathlib.Core.Path.{sym, ◌∙◌}
 use Rattle.plan.proofs.ByOperation.{operation_small}
 use Rattle.packing.proofs.Breaking.{breaks_2, breaks_3, breaks_25, breaks_none}
 use Rattle.packing.proofs.broken.Goals as goal
@@ -7,7 +6,7 @@ use Rattle.packing.proofs.broken.Goals as goal
 pub unused_zero-requires : goal.unused_zero-requires
 unused_zero-requires c =
     let decoded = c.requires in
-    (operation_small _ (on _ c.is_operation.ensures c.if-not-is_operation.false), decoded.is_mask, decoded.long)
+    (operation_small _ (sym c.is_operation.ensures ∙ c.if-not-is_operation.false), decoded.is_mask, decoded.long)
 
 pub returns-then-not-is_operation : goal.returns-then-not-is_operation
 returns-then-not-is_operation c = breaks_2 _ c.requires.is_operation _ c.is_operation.ensures c.if-not-is_operation.true

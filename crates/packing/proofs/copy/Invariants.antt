@@ -1,11 +1,7 @@
 use Prim.Native.Nat.{◌-◌, ◌≤◌}
 use mathlib.Core.Path.{◌≡◌}
 use mathlib.Core.List.{◌++◌}
-use native.Mathlib.Numerals.{add-one}
-use native.Mathlib.Omega.{arith}
-use borrow.Author.Rules.{rules}
-use lib.ListN.{length, take, drop, length-set}
-use Rattle.laws.proofs.Pieces.{copied_more}
+use lib.ListN.{length, take, drop}
 use Rattle.packing.proofs.copy.Given as goal
 
 abbrev pub invariant-loop-i : goal.invariant-loop-i

@@ -1,9 +1,7 @@
-use Prim.Native.Nat.{◌+◌, ◌≤◌}
 use mathlib.Core.Path.{refl, ◌∙◌}
 use native.Mathlib.Omega.{arith}
-use borrow.Author.Rules.{rules}
-use lib.ListN.{length, length-set}
-use Rattle.packing.proofs.Putting.{Put, put_none, put_room, put_length, put_last, put_more, put_all}
+use lib.ListN.{length-set}
+use Rattle.packing.proofs.Putting.{put_none, put_room, put_length, put_last, put_more, put_all}
 use Rattle.packing.proofs.groups.Goals as goal
 
 pub loop-left-init : goal.loop-left-init

@@ -1,6 +1,5 @@
 use mathlib.Core.Path.{sym}
 use native.Mathlib.Omega.{arith}
-use borrow.Author.Rules.{rules}
 use Rattle.laws.proofs.Pieces.{room_left}
 use Rattle.packing.proofs.Putting.{node_written}
 use Rattle.packing.proofs.node.Goals as goal

@@ -1,4 +1,4 @@
-use Prim.Native.Nat.{◌*◌, ◌-◌, ◌≤◌}
+use Prim.Native.Nat.{◌*◌}
 use mathlib.Core.Path.{◌∙◌, ap}
 use native.Mathlib.Omega.{arith}
 use borrow.Author.Rules.{rules}
@@ -8,7 +8,7 @@ use Rattle.laws.proofs.Machine.{read_back_is, fit_at}
 use Rattle.plan.specs.Words.{size_of}
 use Rattle.plan.proofs.ByOperation.{operation_small}
 use Rattle.plan.proofs.Decoding.{words_part}
-use Rattle.packing.proofs.Turning.{decoded, Sofar, sofar_first, sofar_next, sofar_stop, sofar_done}
+use Rattle.packing.proofs.Turning.{decoded, sofar_first, sofar_next, sofar_stop, sofar_done}
 use Rattle.packing.proofs.nodes.Goals as goal
 
 pub loop-n-init : goal.loop-n-init

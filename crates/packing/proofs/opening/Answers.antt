@@ -1,5 +1,4 @@
 use Rattle.packing.proofs.Turning.{opens_second, opens_first}
-use borrow.Author.Rules.{rules}
 use Rattle.packing.proofs.opening.Goals as goal
 
 pub returns-then-edition_of-eq2 : goal.returns-then-edition_of-eq2

@@ -1,5 +1,4 @@
 use mathlib.Core.Path.{ap, ◌∙◌}
-use borrow.Author.Rules.{rules}
 use Rattle.laws.proofs.Machine.{read_back_is}
 use Rattle.packing.specs.Bytes.{packed_word}
 use Rattle.packing.proofs.Putting.{word_written, word_skipped, word_room}

@@ -1,12 +1,9 @@
-use Prim.Native.Nat.{◌+◌, ◌*◌, ◌-◌, ◌≤◌}
+use Prim.Native.Nat.{◌+◌}
 use native.Mathlib.Omega.{arith}
 use borrow.Author.Rules.{rules}
 use lib.IntN.{pos}
 use lib.ListN.{get_or}
 use Rattle.laws.proofs.Machine.{read_back_is, fit_at}
-use Rattle.codec.proofs.Prefix.{used}
-use Rattle.packing.specs.Packing.{words_to}
-use Rattle.laws.specs.Pieces.{Writes}
 use Rattle.laws.proofs.Pieces.{same_room}
 use Rattle.packing.proofs.Putting.{words_none, words_left, words_room, words_more, words_done}
 use Rattle.packing.proofs.words.Goals as goal
