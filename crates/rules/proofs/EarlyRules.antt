@@ -1,5 +1,5 @@
 -- Rules 3 to 5 by the mask of used words.
-use Prim.Native.Nat.{ℕ, zero, ◌<◌, ◌^◌, ◌/◌, ◌%◌}
+use Prim.Native.Nat.{ℕ, ◌<◌, ◌^◌, ◌/◌, ◌%◌}
 use mathlib.Core.Path.{◌≡◌, refl, ◌∙◌}
 use mathlib.Core.Bool.{Bool, true, false, ◌&&◌, ◌||◌, not}
 use mathlib.Core.List.{List}

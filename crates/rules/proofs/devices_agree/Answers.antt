@@ -1,4 +1,3 @@
-use borrow.Author.Rules.{rules}
 use Rattle.rules.specs.Rules.{devices_agree}
 use Rattle.rules.proofs.devices_agree.Goals as goal
 

@@ -1,4 +1,3 @@
-use borrow.Author.Rules.{rules}
 use Rattle.rules.proofs.Judging.{divisor_test}
 use Rattle.rules.proofs.divisor_right.Goals as goal
 

@@ -1,6 +1,5 @@
 use mathlib.Core.Path.{sym, ◌∙◌}
 use native.Mathlib.Omega.{arith}
-use borrow.Author.Rules.{rules}
 use Rattle.shapes.proofs.Extents.{extents_positive}
 use Rattle.shaping.proofs.Counts.{gathered_within, gathered_few}
 use Rattle.plan.specs.Words.{list_of}

@@ -1,5 +1,7 @@
+use mir.Syntax.{w64}
+use mir.Val.{SFits}
 use borrow.Author.Rules.{rules}
-use Rattle.laws.proofs.Machine.{read_back_is, fit_at}
+use Rattle.laws.proofs.Machine.{read_back_is}
 use Rattle.rules.specs.Rules.{param_right}
 use Rattle.rules.proofs.param_right.Goals as goal
 
@@ -7,5 +9,7 @@ pub returns : goal.returns
 unfolding param_right
 returns c =
     let x = c.args.x in
-    let told = c.struct_told-1.given in
-    simp (c.size_of_word.ensures, read_back_is (fit_at x.number told.1.1.1.1.1.0.1), read_back_is (fit_at x.low told.1.1.1.1.1.1.1.0.1), read_back_is (fit_at x.high told.1.1.1.1.1.1.1.1.0.1))
+    let n : SFits w64 x.number = search rules in
+    let f : SFits w64 x.low = search rules in
+    let g : SFits w64 x.high = search rules in
+    simp (c.size_of_word.ensures, read_back_is n, read_back_is f, read_back_is g)

@@ -1,4 +1,6 @@
-use Rattle.laws.proofs.Machine.{read_back_is, fit_at}
+use mir.Syntax.{w64}
+use mir.Val.{SFits}
+use Rattle.laws.proofs.Machine.{read_back_is}
 use mathlib.Core.Path.{◌∙◌}
 use Rattle.rules.proofs.RowRule.{rows_const, rows_param, rows_permute, rows_flip, rows_shape, rows_offset, rows_any, rows_reduce, rows_load, rows_none, rows_stack, left_of_four}
 use borrow.Author.Rules.{rules}
@@ -28,7 +30,8 @@ returns-then-op-lt19 c = rows_any _ _ _ c.if-op-lt8.false c.if-op-lt19.true
 pub returns-then-op-eq19 : goal.returns-then-op-eq19
 returns-then-op-eq19 c =
     let x = c.args.x in
-    let number = read_back_is (fit_at x.number c.struct_told-1.given.1.1.1.1.1.0.1) in
+    let fits : SFits w64 x.number = search rules in
+    let number = read_back_is fits in
     simp (c.is_flag_row-then-op-eq19.ensures, c.size_of_word.ensures, number) (rows_reduce _ _ _ c.if-op-eq19.true)
 
 pub returns-then-op-eq20 : goal.returns-then-op-eq20
@@ -40,5 +43,6 @@ returns-then-op-lt23 c = rows_none _ _ _ c.if-op-lt19.false c.if-op-eq19.false c
 pub returns : goal.returns
 returns c =
     let x = c.args.x in
-    let number = read_back_is (fit_at x.number c.struct_told-1.given.1.1.1.1.1.0.1) in
+    let fits : SFits w64 x.number = search rules in
+    let number = read_back_is fits in
     rows_stack x _ _ c.if-op-lt23.false c.requires (rw number at c.size_of_word-sources.ensures)

@@ -1,7 +1,7 @@
+use mathlib.Core.Bool.{not}
 use Prim.Native.Nat.{ℕ}
 use mathlib.Core.Path.{◌≡◌, ◌∙◌, ap}
 use mathlib.Core.Bool.{Bool}
-use borrow.Author.Rules.{rules}
 use Rattle.plan.specs.declared.Node.{Node}
 use Rattle.rules.specs.Rules.{rows_right}
 use Rattle.rules.specs.Code.{view_of}
@@ -16,46 +16,45 @@ ranked : (x : Node) (params : ℕ) {rank length : ℕ} {r : Bool} → r ≡ rows
 ranked x params e q = e ∙ ap (λ (n : ℕ). rows_right x params n) q
 
 pub returns-then-not-type_named : goal.returns-then-not-type_named
-returns-then-not-type_named c = breaks_5 c.args.x c.args.params (view_of c.args.a) (view_of c.args.b) (view_of c.args.c) _ c.type_named.ensures c.if-not-type_named.true
+returns-then-not-type_named c = breaks_5 c.args.x c.args.params (view_of c.args.a) (view_of c.args.b) (view_of c.args.c) _ c.type_named.ensures (ap not c.if-not-type_named.true)
 
 pub returns-then-not-types_agree : goal.returns-then-not-types_agree
-returns-then-not-types_agree c = breaks_6 c.args.x c.args.params (view_of c.args.a) (view_of c.args.b) (view_of c.args.c) _ c.type_named.ensures c.if-not-type_named.false _ c.types_agree.ensures c.if-not-types_agree.true
+returns-then-not-types_agree c = breaks_6 c.args.x c.args.params (view_of c.args.a) (view_of c.args.b) (view_of c.args.c) _ c.type_named.ensures (ap not c.if-not-type_named.false) _ c.types_agree.ensures (ap not c.if-not-types_agree.true)
 
 pub returns-then-not-rows_right : goal.returns-then-not-rows_right
 returns-then-not-rows_right c =
-    breaks_7 c.args.x c.args.params (view_of c.args.a) (view_of c.args.b) (view_of c.args.c) _ c.type_named.ensures c.if-not-type_named.false _ c.types_agree.ensures c.if-not-types_agree.false
-    _ (ranked c.args.x c.args.params c.rows_right.ensures c.rank.ensures) c.if-not-rows_right.true
+    breaks_7 c.args.x c.args.params (view_of c.args.a) (view_of c.args.b) (view_of c.args.c) _ c.type_named.ensures (ap not c.if-not-type_named.false) _ c.types_agree.ensures (ap not c.if-not-types_agree.false)
+    _ (ranked c.args.x c.args.params c.rows_right.ensures c.rank.ensures) (ap not c.if-not-rows_right.true)
 
 pub shapes_agree-requires : goal.shapes_agree-requires
 shapes_agree-requires c =
-    rows_tested c.args.x _ _ (rows_held c.args.x c.args.params (view_of c.args.a) (view_of c.args.b) (view_of c.args.c) _ c.type_named.ensures c.if-not-type_named.false _ c.types_agree.ensures c.if-not-types_agree.false
-    _ (ranked c.args.x c.args.params c.rows_right.ensures c.rank.ensures) c.if-not-rows_right.false) _ c.requires.0.known c.requires.1
+    rows_tested c.args.x _ _ (rows_held c.args.x c.args.params (view_of c.args.a) (view_of c.args.b) (view_of c.args.c) _ c.type_named.ensures (ap not c.if-not-type_named.false) _ c.types_agree.ensures (ap not c.if-not-types_agree.false)
+    _ (ranked c.args.x c.args.params c.rows_right.ensures c.rank.ensures) (ap not c.if-not-rows_right.false)) _ c.requires.0.known c.requires.1
 
 pub returns-then-not-shapes_agree : goal.returns-then-not-shapes_agree
 returns-then-not-shapes_agree c =
-    breaks_8_shapes c.args.x c.args.params (view_of c.args.a) (view_of c.args.b) (view_of c.args.c) _ c.type_named.ensures c.if-not-type_named.false _ c.types_agree.ensures c.if-not-types_agree.false
-    _ (ranked c.args.x c.args.params c.rows_right.ensures c.rank.ensures) c.if-not-rows_right.false _ c.shapes_agree.ensures c.if-not-shapes_agree.true
+    breaks_8_shapes c.args.x c.args.params (view_of c.args.a) (view_of c.args.b) (view_of c.args.c) _ c.type_named.ensures (ap not c.if-not-type_named.false) _ c.types_agree.ensures (ap not c.if-not-types_agree.false)
+    _ (ranked c.args.x c.args.params c.rows_right.ensures c.rank.ensures) (ap not c.if-not-rows_right.false) _ c.shapes_agree.ensures (ap not c.if-not-shapes_agree.true)
 
 pub result_shape-e-requires : goal.result_shape-e-requires
 result_shape-e-requires c =
-    let rows = rows_held c.args.x c.args.params (view_of c.args.a) (view_of c.args.b) (view_of c.args.c) _ c.type_named.ensures c.if-not-type_named.false _ c.types_agree.ensures c.if-not-types_agree.false
-    _ (ranked c.args.x c.args.params c.rows_right.ensures c.rank.ensures) c.if-not-rows_right.false in
-    (rows_tested c.args.x _ _ rows _ c.requires.0.known c.requires.1, (permute_rule _ _ _ rows, λ q. stack_rank c.args.x _ _ _ q (on _ c.shapes_agree.ensures c.if-not-shapes_agree.false)))
+    let rows = rows_held c.args.x c.args.params (view_of c.args.a) (view_of c.args.b) (view_of c.args.c) _ c.type_named.ensures (ap not c.if-not-type_named.false) _ c.types_agree.ensures (ap not c.if-not-types_agree.false)
+    _ (ranked c.args.x c.args.params c.rows_right.ensures c.rank.ensures) (ap not c.if-not-rows_right.false) in
+    record { tested = rows_tested c.args.x _ _ rows _ c.requires.0.known c.requires.1; rowa_value = permute_rule _ _ _ rows; a_len_bound = λ q. stack_rank c.args.x _ _ _ q (on _ c.shapes_agree.ensures (ap not c.if-not-shapes_agree.false)) }
 
 pub returns-then-n-gt1048576 : goal.returns-then-n-gt1048576
 returns-then-n-gt1048576 c =
-    breaks_8_count c.args.x c.args.params (view_of c.args.a) (view_of c.args.b) (view_of c.args.c) _ c.type_named.ensures c.if-not-type_named.false _ c.types_agree.ensures c.if-not-types_agree.false
-    _ (ranked c.args.x c.args.params c.rows_right.ensures c.rank.ensures) c.if-not-rows_right.false _ c.shapes_agree.ensures
-    c.if-not-shapes_agree.false _ _ c.result_shape-e.ensures c.count-n.ensures c.if-n-gt1048576.true
+    breaks_8_count c.args.x c.args.params (view_of c.args.a) (view_of c.args.b) (view_of c.args.c) _ c.type_named.ensures (ap not c.if-not-type_named.false) _ c.types_agree.ensures (ap not c.if-not-types_agree.false)
+    _ (ranked c.args.x c.args.params c.rows_right.ensures c.rank.ensures) (ap not c.if-not-rows_right.false) _ c.shapes_agree.ensures
+    (ap not c.if-not-shapes_agree.false) _ _ c.result_shape-e.ensures c.count-n.ensures c.if-n-gt1048576.true
 
 pub returns : goal.returns
-returns c =
-    (
-      fits_all c.args.x c.args.params (view_of c.args.a) (view_of c.args.b) (view_of c.args.c) _ c.type_named.ensures c.if-not-type_named.false _ c.types_agree.ensures c.if-not-types_agree.false
-          _ (ranked c.args.x c.args.params c.rows_right.ensures c.rank.ensures) c.if-not-rows_right.false _ c.shapes_agree.ensures
-          c.if-not-shapes_agree.false _ _ c.result_shape-e.ensures c.count-n.ensures c.if-n-gt1048576.false,
-      c.result_shape-e.ensures,
-      fits_count c.args.x c.args.params (view_of c.args.a) (view_of c.args.b) (view_of c.args.c) _ c.type_named.ensures c.if-not-type_named.false _ c.types_agree.ensures c.if-not-types_agree.false
-          _ (ranked c.args.x c.args.params c.rows_right.ensures c.rank.ensures) c.if-not-rows_right.false _ c.shapes_agree.ensures
-          c.if-not-shapes_agree.false _ _ c.result_shape-e.ensures c.count-n.ensures c.if-n-gt1048576.false,
-    )
+returns c = (
+  fits_all c.args.x c.args.params (view_of c.args.a) (view_of c.args.b) (view_of c.args.c) _ c.type_named.ensures (ap not c.if-not-type_named.false) _ c.types_agree.ensures (ap not c.if-not-types_agree.false)
+      _ (ranked c.args.x c.args.params c.rows_right.ensures c.rank.ensures) (ap not c.if-not-rows_right.false) _ c.shapes_agree.ensures
+      (ap not c.if-not-shapes_agree.false) _ _ c.result_shape-e.ensures c.count-n.ensures c.if-n-gt1048576.false,
+  c.result_shape-e.ensures,
+  fits_count c.args.x c.args.params (view_of c.args.a) (view_of c.args.b) (view_of c.args.c) _ c.type_named.ensures (ap not c.if-not-type_named.false) _ c.types_agree.ensures (ap not c.if-not-types_agree.false)
+      _ (ranked c.args.x c.args.params c.rows_right.ensures c.rank.ensures) (ap not c.if-not-rows_right.false) _ c.shapes_agree.ensures
+      (ap not c.if-not-shapes_agree.false) _ _ c.result_shape-e.ensures c.count-n.ensures c.if-n-gt1048576.false,
+)

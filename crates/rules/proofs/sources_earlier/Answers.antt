@@ -1,4 +1,3 @@
-use borrow.Author.Rules.{rules}
 use Rattle.rules.proofs.EarlyRules.{sources_read}
 use Rattle.rules.proofs.sources_earlier.Goals as goal
 

@@ -1,6 +1,5 @@
 use mathlib.Core.Path.{refl}
 use native.Mathlib.Omega.{arith}
-use borrow.Author.Rules.{rules}
 use Rattle.rules.specs.Rules.{type_named}
 use Rattle.rules.proofs.EarlyRules.{bit_uses}
 use Rattle.rules.proofs.type_named.Goals as goal

@@ -1,5 +1,4 @@
 use Rattle.rules.proofs.TypeRule.{type-laws}
-use borrow.Author.Rules.{rules}
 use Rattle.rules.proofs.types_agree.Goals as goal
 
 pub returns-then-op-lt9 : goal.returns-then-op-lt9
