@@ -1,11 +1,8 @@
-use mir.Facts.{to_z-of_z}
 use Prim.Native.Nat.{ℕ, ◌+◌, ◌-◌, ◌≤◌}
-use mathlib.Core.Path.{◌≡◌, refl, ◌∙◌}
+use mathlib.Core.Path.{◌≡◌}
 use lib.IntN.{pos}
 use lib.ListN.{length, get_or}
 use Rattle.laws.specs.Store.{store}
-use Rattle.laws.proofs.Store.{store_none, store_step, store_done}
-use borrow.Author.Rules.{rules}
 use Rattle.overlaying.proofs.known_values.Given as goal
 
 abbrev pub invariant-loop-i : goal.invariant-loop-i

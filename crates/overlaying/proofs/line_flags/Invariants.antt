@@ -1,13 +1,9 @@
 use Prim.Native.Nat.{ℕ, ◌+◌, ◌-◌, ◌≤◌}
-use mathlib.Core.Path.{◌≡◌, refl, ◌∙◌}
-use native.Mathlib.Omega.{arith}
+use mathlib.Core.Path.{◌≡◌}
 use lib.ListN.{length}
 use Rattle.laws.specs.Store.{store}
-use Rattle.laws.proofs.Store.{store_none, store_step, store_done}
 use Rattle.views.specs.Views.{step}
 use Rattle.overlaying.specs.Overlay.{over_flag}
-use Rattle.overlaying.proofs.Overlays.{flag_read}
-use borrow.Author.Rules.{rules}
 use Rattle.overlaying.proofs.line_flags.Given as goal
 
 abbrev pub invariant-loop-i : goal.invariant-loop-i

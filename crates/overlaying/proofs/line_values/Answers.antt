@@ -1,12 +1,10 @@
 use mir.Facts.{to_z-of_z}
-use Prim.Native.Nat.{ℕ, ◌+◌, ◌-◌, ◌≤◌}
-use mathlib.Core.Path.{◌≡◌, refl}
+use mir.Syntax.{w64}
+use Prim.Native.Nat.{◌+◌}
+use mathlib.Core.Path.{refl}
 use native.Mathlib.Omega.{arith}
-use lib.ListN.{length}
-use Rattle.laws.specs.Store.{store}
 use Rattle.laws.proofs.Store.{store_none, store_step, store_done}
 use Rattle.views.specs.Views.{step}
-use Rattle.overlaying.specs.Overlay.{over_value}
 use Rattle.overlaying.proofs.Overlays.{value_read}
 use borrow.Author.Rules.{rules}
 use Rattle.overlaying.proofs.line_values.Goals as goal
@@ -21,7 +19,7 @@ loop-i-preserved c =
       search rules,
       search rules,
       store_step _ _ _ _ _ _ c.loop-i.invariant.2
-          (value_read {to = c.args.to} {k = c.args.p + c.step_at.result} {l = c.args.q + c.step_at-in-loop-i.result} {p = c.args.p + step c.args.n c.args.a c.loop-i.i} {q = c.args.q + step c.args.n c.args.b c.loop-i.i} _ (omega (arith, first)) (omega (arith, second)) (omega (arith, first, c.requires)) (omega (arith, second, c.requires)) c.args.values.now c.args.flags.now _ c.loop-i.invariant.2 c.upper_value-value.ensures (to_z-of_z (search rules)) (to_z-of_z (search rules)) (to_z-of_z (search rules))),
+          (value_read {to = c.args.to} {k = c.args.p + c.step_at.result} {l = c.args.q + c.step_at-in-loop-i.result} {p = c.args.p + step c.args.n c.args.a c.loop-i.i} {q = c.args.q + step c.args.n c.args.b c.loop-i.i} _ (omega (arith, first)) (omega (arith, second)) (omega (arith, first, c.requires)) (omega (arith, second, c.requires)) c.args.values.now c.args.flags.now _ c.loop-i.invariant.2 c.upper_value-value.ensures (to_z-of_z {w = w64} (search rules)) (to_z-of_z {w = w64} (search rules)) (to_z-of_z {w = w64} (search rules))),
     )
 
 pub returns : goal.returns

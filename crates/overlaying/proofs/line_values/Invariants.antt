@@ -1,14 +1,9 @@
-use mir.Facts.{to_z-of_z}
 use Prim.Native.Nat.{ℕ, ◌+◌, ◌-◌, ◌≤◌}
-use mathlib.Core.Path.{◌≡◌, refl}
-use native.Mathlib.Omega.{arith}
+use mathlib.Core.Path.{◌≡◌}
 use lib.ListN.{length}
 use Rattle.laws.specs.Store.{store}
-use Rattle.laws.proofs.Store.{store_none, store_step, store_done}
 use Rattle.views.specs.Views.{step}
 use Rattle.overlaying.specs.Overlay.{over_value}
-use Rattle.overlaying.proofs.Overlays.{value_read}
-use borrow.Author.Rules.{rules}
 use Rattle.overlaying.proofs.line_values.Given as goal
 
 abbrev pub invariant-loop-i : goal.invariant-loop-i

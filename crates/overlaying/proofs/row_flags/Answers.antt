@@ -1,4 +1,3 @@
-use borrow.Author.Rules.{rules}
 use Rattle.overlaying.proofs.row_flags.Goals as goal
 
 pub line_flags-requires : goal.line_flags-requires

@@ -1,4 +1,3 @@
-use borrow.Author.Rules.{rules}
 use Rattle.overlaying.proofs.row_values.Goals as goal
 
 pub line_values-requires : goal.line_values-requires

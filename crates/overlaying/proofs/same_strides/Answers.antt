@@ -1,4 +1,3 @@
-use borrow.Author.Rules.{rules}
 use Rattle.laws.proofs.Booleans.{and_true}
 use Rattle.overlaying.proofs.same_strides.Goals as goal
 
