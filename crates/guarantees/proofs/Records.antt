@@ -42,7 +42,7 @@ use Rattle.guarantees.specs.Records.{TypeIs, DeviceIs, MaxOf, MinOf, LeastOf, Gr
 use Rattle.guarantees.proofs.Words.{size_is, as_count_lem, first_node, second_node, third_node, number_word, low_word, high_word, dtype_size, device_size, row_a_at}
 use Rattle.guarantees.proofs.RowWords.{row_is}
 use Rattle.guarantees.proofs.ShapeWords.{within, past, last_both}
-use Rattle.guarantees.proofs.Rules.{Share, agree_pairs, number_is, op_is, is_operation, reads_says, reads_not, reads_or, Device, device_of, says_9, first_is, second_is, third_is, reads_1, reads_2, reads_3}
+use Rattle.guarantees.proofs.Rules.{Share, agree_pairs, number_is, op_is, is_operation_lem, reads_says, reads_not, reads_or, Device, device_of, says_9, first_is, second_is, third_is, reads_1, reads_2, reads_3}
 
 -- ---- least and greatest
 
@@ -386,7 +386,7 @@ module _ (t : List ℤ) (n : ℕ) (earlier : List Derived) (o : ℕ) (q : word t
       all = let s = agree_pairs _ _ _ ((says_9 t n earlier o q known).1 rule) in joins _ _ _ s.0 s.1 s.2
 
       joined : 2 ≤ o → (o ≡ 20 → ⊥) → (derive_node t n earlier).device ≡ join_device (join_device (first (node_at t n) earlier).device (second (node_at t n) earlier).device) (third (node_at t n) earlier).device
-      joined low other = sym (device_joined (node_at t n) _ _ _ (λ z. absurd (omega (arith, z, op))) (λ z. absurd (omega (arith, z, op))) (λ z. other (sym op ∙ z)) (is_operation t n earlier o q known))
+      joined low other = sym (device_joined (node_at t n) _ _ _ (λ z. absurd (omega (arith, z, op))) (λ z. absurd (omega (arith, z, op))) (λ z. other (sym op ∙ z)) (is_operation_lem t n earlier o q known))
 
   -- ---- its extents
 

@@ -177,9 +177,9 @@ module _ (t : List ℤ) (n : ℕ) (earlier : List Derived) where
     pub used : (k : ℕ) → 1 ≤ k → k ≤ 16 → uses (node_at t n).op k ≡ uses_word o k
     used k a b = rw op_is (same_users o k known a b)
 
-    pub is_operation : is_operation (node_at t n).op ≡ true
+    pub is_operation_lem : is_operation (node_at t n).op ≡ true
     unfolding is_operation
-    is_operation = rw op_is (lt-ltb o 24 (omega arith))
+    is_operation_lem = rw op_is (lt-ltb o 24 (omega arith))
 
     -- the sources that are read
     pub reads_says : (k : ℕ) → 1 ≤ k → k ≤ 3 → Exactly (reads (node_at t n) k ≡ true) (ReadsSource t n o k)
@@ -360,7 +360,7 @@ module _ (t : List ℤ) (n : ℕ) (earlier : List Derived) where
         free : {k : ℕ} → o ≡ k → 19 < k → (k ≡ 21 → ⊥) → (k ≡ 23 → ⊥) → rule_holds t n earlier 6 ≡ true
         free z l f g =
             let p = at z in
-            untyped (types_load (node_at t n) _ _ _ (omega (arith, p)) (λ y. absurd (omega (arith, p, y))) (λ y. absurd (omega (arith, p, y))) (λ y. f (sym p ∙ y)) (λ y. g (sym p ∙ y)) is_operation)
+            untyped (types_load (node_at t n) _ _ _ (omega (arith, p)) (λ y. absurd (omega (arith, p, y))) (λ y. absurd (omega (arith, p, y))) (λ y. f (sym p ∙ y)) (λ y. g (sym p ∙ y)) is_operation_lem)
 
         decided : Rule6 t n o (source t n earlier 1).dtype (source t n earlier 2).dtype (source t n earlier 3).dtype → Row6 o → rule_holds t n earlier 6 ≡ true
         decided r (any w) =
@@ -460,7 +460,7 @@ module _ (t : List ℤ) (n : ℕ) (earlier : List Derived) where
       )
 
       row_stack : o ≡ 23 → (eqb (size_of (node_at t n).number) 3 || (eqb (size_of (node_at t n).number) 2 && eqb (node_at t n).source3.0 0)) ≡ rows_right (node_at t n) params rank
-      row_stack z = rows_stack (node_at t n) params rank (omega (arith, is 23 z)) is_operation refl
+      row_stack z = rows_stack (node_at t n) params rank (omega (arith, is 23 z)) is_operation_lem refl
 
       shaped : rows_right (node_at t n) params rank ≡ true → (4 ≤ o) × (o ≤ 7) → ShapeRow t n
       shaped e h =

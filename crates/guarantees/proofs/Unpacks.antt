@@ -244,7 +244,7 @@ module _ (s : List ℕ) (edition room : ℕ) where
   begins_inside (first c) = number_inside c.number
   begins_inside (next_node b h w) = words_inside w
 
-  pub begins_opens : {count n p : ℕ} {t : List ℤ} → Begins s edition room count t n p → (at : ℕ) × Opens s edition at
+  pub begins_opens : {count : ℕ} {t : List ℤ} {n p : ℕ} → Begins s edition room count t n p → (at : ℕ) × Opens s edition at
   begins_opens (first c) = (c.place, c.opens)
   begins_opens (next_node b h w) = begins_opens b
 
@@ -255,7 +255,7 @@ module _ (s : List ℕ) (edition room : ℕ) where
   operation_in (unused w l u z) = operation_in w
 
   -- a first edition file holds no new one
-  pub first_old : {count n p : ℕ} {t : List ℤ} → Begins s edition room count t n p → edition ≡ 1 → SomeNew t n → ⊥
+  pub first_old : {count : ℕ} {t : List ℤ} {n p : ℕ} → Begins s edition room count t n p → edition ≡ 1 → SomeNew t n → ⊥
   first_old (first c) one w = absurd (not-suc-le-zero w.1)
   first_old {t = t} (next_node {n} b h x) one w =
       ⊎_elim
