@@ -1,5 +1,5 @@
 -- Acceptance, at every prefix of a plan: the first n nodes are accepted with records ds exactly when each meets the rules.
-use Prim.Native.Nat.{ℕ, zero, suc, ◌+◌, ◌<◌}
+use Prim.Native.Nat.{ℕ, zero, suc, ◌<◌}
 use mathlib.Core.Path.{◌≡◌, refl, ap, sym, ◌∙◌, subst}
 use mathlib.Core.Bool.{Bool, true, false, cond}
 use mathlib.Core.Logic.{⊎_elim}
@@ -12,7 +12,7 @@ use lib.Dec.{leb}
 use lib.ListN.{length, get_or, take}
 use lib.Seq.{take-take, take-suc, take-append_seam, get_or-append_seam, get_or-take, length-take-le}
 use Rattle.laws.proofs.Lists.{length_snoc, take_whole}
-use Rattle.plan.specs.Words.{node_at, node_count, length_right}
+use Rattle.plan.specs.Words.{node_count, length_right}
 use Rattle.plan.specs.Answers.{Refusal, Outcome, accepted, refused, refuse, need, and_then, in_turn, AllHold}
 use Rattle.plan.proofs.Outcomes.{never_both, accepted_same, refused_same, need_accepted, then_accepted, turn_last, turn_more, turn_stays, turn_refused, order_accepted, order_holds, order_refused, order_fails}
 use Rattle.rules.specs.Rules.{Derived, no_source}

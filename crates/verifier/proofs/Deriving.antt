@@ -18,7 +18,7 @@ use Rattle.plan.specs.declared.Node.{Node}
 use Rattle.plan.specs.declared.NodeNumber.{NodeNumber}
 use Rattle.plan.specs.Operations.{masks}
 use Rattle.plan.specs.Words.{node_at, over_params, params_before, reads}
-use Rattle.plan.specs.Answers.{Outcome, accepted, refuse, in_turn, AllHold, FirstFailing, here}
+use Rattle.plan.specs.Answers.{Outcome, accepted, refuse, in_turn, AllHold, FirstFailing}
 use Rattle.plan.proofs.Outcomes.{first_front, first_back, all_both, order_fails, order_holds, turn_more, turn_stays}
 use Rattle.shapes.specs.Rules.{element_limit, shapes_agree, result_extents}
 use Rattle.rules.specs.declared.Record.{Record}

@@ -1,6 +1,6 @@
 -- The numbers of a verdict: how many nodes there are, which rule is named, and at which place.
 use Prim.Native.Nat.{ℕ, ◌%◌, ◌≤◌}
-use mathlib.Core.Path.{◌≡◌, refl}
+use mathlib.Core.Path.{◌≡◌}
 use mathlib.Core.Bool.{Bool, true, false, ◌&&◌}
 use mathlib.Core.List.{List, [], ◌∷◌}
 use native.Mathlib.Omega.{arith}
@@ -11,8 +11,6 @@ use lib.ListN.{length}
 use Rattle.laws.proofs.Booleans.{and_true}
 use Rattle.plan.specs.Words.{node_count, length_right}
 use Rattle.plan.specs.Answers.{Refusal, Rule, rule, FirstFailing, here, later}
-use Rattle.rules.specs.Rules.{Derived}
-use Rattle.verifier.specs.Check.{node_rules}
 use Rattle.verifier.specs.Meets.{Refuses, bad_length, bad_node, too_many}
 
 -- ---- the number of a rule

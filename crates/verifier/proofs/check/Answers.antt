@@ -2,7 +2,6 @@ use native.Mathlib.Omega.{arith}
 use lib.ListN.{length, take}
 use Rattle.verifier.proofs.Ending.{check_breaks, check_short, check_meets, taken, answers, meets}
 use Rattle.verifier.proofs.Writing.{leaves}
-use borrow.Author.Rules.{rules}
 use Rattle.verifier.proofs.check.Goals as goal
 
 pub returns-then-r-ne0 : goal.returns-then-r-ne0

@@ -1,6 +1,5 @@
 use mathlib.Core.Path.{refl}
 use borrow.Author.Tests.{eq-eqb, ne_eqb}
-use borrow.Author.Rules.{rules}
 use Rattle.verifier.proofs.code.Goals as goal
 
 pub returns-then-r-eq0 : goal.returns-then-r-eq0

@@ -1,4 +1,4 @@
-use Prim.Native.Nat.{◌≤◌, ◌*◌, ◌-◌}
+use Prim.Native.Nat.{◌≤◌}
 use borrow.Author.Rules.{rules}
 use mathlib.Core.Path.{subst}
 use native.Mathlib.Omega.{arith}
@@ -6,7 +6,7 @@ use lib.Dec.{eqb}
 use lib.ListN.{length-replicate}
 use Rattle.rules.specs.declared.Judged.{Judged}
 use Rattle.rules.specs.Code.{view_of, Judges}
-use Rattle.verifier.proofs.Deriving.{SoFar, so_far_none, source_view, source_few, stop_early, stop_late, one_more, masked_of, before_of, params_few, one_or_none, judged_few, derives_stop, derives_done, small_of, few_of}
+use Rattle.verifier.proofs.Deriving.{so_far_none, source_view, source_few, stop_early, stop_late, one_more, masked_of, before_of, params_few, one_or_none, judged_few, derives_stop, derives_done, small_of, few_of}
 use Rattle.verifier.proofs.derive.Goals as goal
 
 pub loop-i-init : goal.loop-i-init
@@ -48,8 +48,8 @@ returns-in-Breaks c =
     let va = source_view t turn.i turn.records turn.params turn.total so small _ x 1 x.source1 c.source_place-place1.result c.source_record-a.result before.0 c.source_place-place1.ensures.1 c.source_record-a.ensures in
     let vb = source_view t turn.i turn.records turn.params turn.total so small _ x 2 x.source2 c.source_place-place2.result c.source_record-b.result before.1 c.source_place-place2.ensures.1 c.source_record-b.ensures in
     let vc = source_view t turn.i turn.records turn.params turn.total so small _ x 3 x.source3 c.source_place-place3.result c.source_record-c.result before.2 c.source_place-place3.ensures.1 c.source_record-c.ensures in
-    let j = subst (λ (r : Judged). Judges x turn.params (view_of c.source_record-a.result) (view_of c.source_record-b.result) (view_of c.source_record-c.result) r) c.in-Breaks.is.1 c.judge-judged.ensures in
-    let number = c.in-Breaks.is.0.0 in
+    let j = subst (λ (r : Judged). Judges x turn.params (view_of c.source_record-a.result) (view_of c.source_record-b.result) (view_of c.source_record-c.result) r) c.in-Breaks.is c.judge-judged.ensures in
+    let number = c.in-Breaks.number in
     derives_stop t c.args.count turn.records number turn.i so.size (stop_late t turn.i turn.records turn.params turn.total so small x q _ _ _ va vb vc rules c.args.count c.loop-i-test.true number j) c.ended-in-Breaks.ensures
 
 pub offset_bounds-records-i : goal.offset_bounds-records-i
@@ -64,7 +64,7 @@ overflow_add-total c =
     let turn = c.loop-i in
     let x = c.node_at-x.result in
     let q = c.node_at-x.ensures in
-    let j = subst (λ (r : Judged). Judges x turn.params (view_of c.source_record-a.result) (view_of c.source_record-b.result) (view_of c.source_record-c.result) r) c.in-Meets.is.1 c.judge-judged.ensures in
+    let j = subst (λ (r : Judged). Judges x turn.params (view_of c.source_record-a.result) (view_of c.source_record-b.result) (view_of c.source_record-c.result) r) c.in-Meets.is c.judge-judged.ensures in
     omega (arith, c.requires, turn.invariant.0, turn.invariant.1, c.loop-i-test.true, judged_few x turn.params (view_of c.source_record-a.result) (view_of c.source_record-b.result) (view_of c.source_record-c.result) _ _ j)
 
 pub overflow_add-params : goal.overflow_add-params
@@ -92,8 +92,8 @@ loop-i-preserved c =
     let va = source_view t turn.i turn.records turn.params turn.total so small _ x 1 x.source1 c.source_place-place1.result c.source_record-a.result before.0 c.source_place-place1.ensures.1 c.source_record-a.ensures in
     let vb = source_view t turn.i turn.records turn.params turn.total so small _ x 2 x.source2 c.source_place-place2.result c.source_record-b.result before.1 c.source_place-place2.ensures.1 c.source_record-b.ensures in
     let vc = source_view t turn.i turn.records turn.params turn.total so small _ x 3 x.source3 c.source_place-place3.result c.source_record-c.result before.2 c.source_place-place3.ensures.1 c.source_record-c.ensures in
-    let j = subst (λ (r : Judged). Judges x turn.params (view_of c.source_record-a.result) (view_of c.source_record-b.result) (view_of c.source_record-c.result) r) c.in-Meets.is.1 c.judge-judged.ensures in
-    let n = c.in-Meets.is.0.1.0 in
+    let j = subst (λ (r : Judged). Judges x turn.params (view_of c.source_record-a.result) (view_of c.source_record-b.result) (view_of c.source_record-c.result) r) c.in-Meets.is c.judge-judged.ensures in
+    let n = c.in-Meets.n in
     let few = judged_few x turn.params (view_of c.source_record-a.result) (view_of c.source_record-b.result) (view_of c.source_record-c.result) _ _ j in
     let more = one_more t turn.i turn.records turn.params turn.total so small x q _ _ _ va vb vc rules _ _ (omega (arith, c.requires, turn.invariant.0, c.loop-i-test.true)) j in
     (omega (arith, turn.invariant.0, c.loop-i-test.true), omega (arith, turn.invariant.1, few), rw c.one_if_param-params.ensures more)

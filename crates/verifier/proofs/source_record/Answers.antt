@@ -1,5 +1,4 @@
 use mathlib.Core.Path.{refl}
-use borrow.Author.Rules.{rules}
 use Rattle.verifier.proofs.source_record.Goals as goal
 
 pub returns-then-reads : goal.returns-then-reads

@@ -2,7 +2,6 @@ use native.Mathlib.Omega.{arith}
 use lib.ListN.{length-set}
 use Rattle.laws.proofs.Machine.{read_back, read_back_is}
 use Rattle.verifier.proofs.Writing.{in_order}
-use borrow.Author.Rules.{rules}
 use Rattle.verifier.proofs.write_four.Goals as goal
 
 pub bounds-derived-at-2 : goal.bounds-derived-at-2

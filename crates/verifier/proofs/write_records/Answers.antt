@@ -1,16 +1,16 @@
-use Prim.Native.Nat.{◌≤◌, ◌*◌, ◌-◌}
+use Prim.Native.Nat.{◌*◌}
 use mathlib.Core.Path.{◌≡◌, refl}
 use native.Mathlib.Omega.{arith}
 use borrow.Author.Rules.{rules}
-use lib.ListN.{length, get_or, take}
+use lib.ListN.{get_or}
 use Rattle.verifier.specs.Check.{derived_words}
 use Rattle.rules.specs.Code.{view_of}
-use lib.Seq.{sets, length-take-le}
-use Rattle.verifier.proofs.Writing.{words_of_all, none_yet, one_more, kept}
+use lib.Seq.{length-take-le}
+use Rattle.verifier.proofs.Writing.{none_yet, one_more, kept}
 use Rattle.verifier.proofs.write_records.Goals as goal
 
 pub loop-i-init : goal.loop-i-init
-loop-i-init c = (omega arith, refl, search rules, none_yet c.args.derived.now c.args.t1)
+loop-i-init c = (omega arith, refl, search rules, none_yet c.args.derived.now c.args.records)
 
 pub offset_bounds-records-i : goal.offset_bounds-records-i
 offset_bounds-records-i c = omega (arith, c.loop-i.invariant.0, c.loop-i-test.true, c.requires.0)
@@ -35,7 +35,7 @@ loop-i-preserved c =
     let turn = c.loop-i in
     let l = turn.invariant.2 in
     let test = c.loop-i-test.true in
-    (omega (arith, test), kept turn.derived (8 * turn.i) (derived_words (view_of (get_or c.args.t1 turn.i _))) c.write_record.ensures turn.invariant.1, l, one_more c.args.derived.now c.args.t1 turn.i (omega (arith, test, c.requires.0, l)) _ (length-take-le turn.i c.args.t1 (omega (arith, test, c.requires.0, l))) turn.invariant.3 c.write_record.ensures)
+    (omega (arith, test), kept turn.derived (8 * turn.i) (derived_words (view_of (get_or c.args.records turn.i _))) c.write_record.ensures turn.invariant.1, l, one_more c.args.derived.now c.args.records turn.i (omega (arith, test, c.requires.0, l)) _ (length-take-le turn.i c.args.records (omega (arith, test, c.requires.0, l))) turn.invariant.3 c.write_record.ensures)
 
 pub shape_of-derived : goal.shape_of-derived
 shape_of-derived c = c.loop-i.invariant.1

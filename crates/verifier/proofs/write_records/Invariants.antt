@@ -1,12 +1,8 @@
-use Prim.Native.Nat.{◌≤◌, ◌*◌, ◌-◌}
-use mathlib.Core.Path.{◌≡◌, refl}
-use native.Mathlib.Omega.{arith}
-use borrow.Author.Rules.{rules}
-use lib.ListN.{length, get_or, take}
-use Rattle.verifier.specs.Check.{derived_words}
-use Rattle.rules.specs.Code.{view_of}
-use lib.Seq.{sets, length-take-le}
-use Rattle.verifier.proofs.Writing.{words_of_all, none_yet, one_more, kept}
+use Prim.Native.Nat.{◌≤◌, ◌-◌}
+use mathlib.Core.Path.{◌≡◌}
+use lib.ListN.{length, take}
+use lib.Seq.{sets}
+use Rattle.verifier.proofs.Writing.{words_of_all}
 use Rattle.verifier.proofs.write_records.Given as goal
 
 abbrev pub invariant-loop-i : goal.invariant-loop-i
