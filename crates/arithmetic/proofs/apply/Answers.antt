@@ -1,4 +1,4 @@
-use Rattle.std.proofs.Common.{cond, ℤ, pos, ◌+ℤ◌, ◌*ℤ◌, refl, rules}
+use Rattle.std.proofs.Common.{cond, ℤ, pos, ◌+ℤ◌, ◌*ℤ◌, refl}
 use lib.Signed.{lt_z}
 use borrow.Author.Rules.{sfits_of}
 use Rattle.laws.specs.Integers.{same_z, min_z, max_z, floor_div, floor_mod}
@@ -59,6 +59,6 @@ returns-in-16 c = arm c.ranges.x c.ranges.y (sfits_of c.least.type_inv) 16 min_z
 pub returns-in_default : goal.returns-in_default
 unfolding binary among
 returns-in_default c =
-    let rest = c.in_default.rest in
+    let rest = c.in_default.in_default-own.rest in
     let last = last_binary c.args.op c.requires.0 c.requires.1 rest.0.0.0.0.0.0.0.1 rest.0.0.0.0.0.0.1 rest.0.0.0.0.0.1 rest.0.0.0.0.1 rest.0.0.0.1 rest.0.0.1 rest.0.1 rest.1 in
     arm c.ranges.x c.ranges.y (sfits_of c.greatest-in_default.type_inv) 17 max_z last c.greatest-in_default.ensures refl

@@ -1,4 +1,4 @@
-use Rattle.std.proofs.Common.{◌≡◌, ◌^◌, pos, refl, arith, rules}
+use Rattle.std.proofs.Common.{◌≡◌, ◌^◌, pos, refl, arith}
 use borrow.Author.Rules.{sfits_of}
 use Rattle.laws.specs.Integers.{floor_div, floor_mod}
 use Rattle.laws.specs.Lists.{among}

@@ -1,4 +1,3 @@
-use Rattle.std.proofs.Common.{rules}
 use borrow.Author.Rules.{sfits_of}
 use Rattle.arithmetic.proofs.Powers.{multiple_fits, remainder_fits, remainder_is}
 use Rattle.arithmetic.proofs.low_bits.Goals as goal

@@ -1,4 +1,3 @@
-use Rattle.std.proofs.Common.{rules}
 use Rattle.arithmetic.proofs.Raised.{raised_fits, raised_cast, raised_is}
 use Rattle.arithmetic.proofs.Powers.{least_fits, shift_fits, shift_sub_fits, shift_sub}
 use Rattle.arithmetic.proofs.shifted.Goals as goal
