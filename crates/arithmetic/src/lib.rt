@@ -90,6 +90,7 @@ fn low_bits(x: i64, k: u32) -> i64
 }
 
 // IDIV or MOD by 2^k.
+#[tactic(auto, using(crate::proofs::Arms::power_quotient, crate::proofs::Arms::power_remainder))]
 pub fn by_power(op: usize, x: i64, k: u32) -> i64
     requires { (12 ≤ op) × (op < 14) × (Small x) × (k < 32) }
     ensures { result ≡ binary op x (pos (2 ^ k)) }
