@@ -1,5 +1,4 @@
 use borrow.Author.Tests.{ne_eqb}
-use borrow.Author.Rules.{rules}
 use Rattle.reducing.proofs.begin_values.Goals as goal
 
 pub returns-then-how-eq0 : goal.returns-then-how-eq0

@@ -1,4 +1,3 @@
-use borrow.Author.Rules.{rules}
 use Rattle.reducing.proofs.cells_flags.Goals as goal
 
 pub fold_cells_flags-requires : goal.fold_cells_flags-requires

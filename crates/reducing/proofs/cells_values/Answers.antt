@@ -1,5 +1,4 @@
 use Rattle.reducing.proofs.Rooms.{how_max}
-use borrow.Author.Rules.{rules}
 use Rattle.reducing.proofs.cells_values.Goals as goal
 
 pub fold_cells_values-requires : goal.fold_cells_values-requires

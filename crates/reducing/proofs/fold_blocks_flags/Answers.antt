@@ -1,11 +1,7 @@
-use Prim.Native.Nat.{ℕ, ◌+◌, ◌*◌, ◌-◌, ◌≤◌, min}
 use mathlib.Core.Path.{◌≡◌, refl}
 use native.Mathlib.Omega.{arith}
-use lib.ListN.{length}
 use Rattle.laws.proofs.Store.{length_store}
-use Rattle.views.specs.Views.{place}
 use Rattle.views.proofs.RowPlaces.{rows_below}
-use Rattle.reducing.specs.Gathering.{taken}
 use Rattle.reducing.proofs.Folds.{blocks_none}
 use Rattle.reducing.proofs.Grids.{offset_near, block_turn}
 use borrow.Author.Rules.{rules}

@@ -1,17 +1,10 @@
 use Prim.Native.Nat.{ℕ, ◌+◌, ◌*◌, ◌-◌, ◌≤◌}
-use mathlib.Core.Path.{◌≡◌, refl}
-use native.Mathlib.Omega.{arith}
+use mathlib.Core.Path.{◌≡◌}
 use lib.IntN.{pos}
 use lib.ListN.{length}
-use Rattle.laws.proofs.Store.{length_store}
-use Rattle.views.specs.Views.{place, reach}
-use Rattle.views.proofs.RowPlaces.{rows_below}
+use Rattle.views.specs.Views.{place}
 use Rattle.reducing.specs.Folding.{combine_of}
 use Rattle.reducing.specs.Gathering.{taken}
-use Rattle.reducing.proofs.Folds.{blocks_none}
-use Rattle.reducing.proofs.Grids.{sources_small, offset_near, block_turn}
-use Rattle.reducing.proofs.Rooms.{small_kept, room_block}
-use borrow.Author.Rules.{rules}
 use Rattle.reducing.proofs.fold_blocks_values.Given as goal
 
 abbrev pub invariant-loop-j : goal.invariant-loop-j

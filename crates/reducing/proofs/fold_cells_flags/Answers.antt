@@ -1,9 +1,5 @@
-use Prim.Native.Nat.{ℕ, ◌+◌, ◌-◌, ◌≤◌, min}
-use mathlib.Core.Path.{◌≡◌, refl}
-use lib.ListN.{length}
+use mathlib.Core.Path.{refl}
 use Rattle.laws.proofs.Store.{store_none, store_step, store_done}
-use Rattle.views.specs.Views.{step}
-use Rattle.reducing.specs.Gathering.{taken}
 use Rattle.reducing.proofs.Folds.{cell_turn}
 use borrow.Author.Rules.{rules}
 use Rattle.reducing.proofs.fold_cells_flags.Goals as goal

@@ -1,11 +1,8 @@
 use Prim.Native.Nat.{ℕ, ◌+◌, ◌-◌, ◌≤◌, min}
-use mathlib.Core.Path.{◌≡◌, refl}
+use mathlib.Core.Path.{◌≡◌}
 use lib.ListN.{length}
-use Rattle.laws.proofs.Store.{store_none, store_step, store_done}
 use Rattle.views.specs.Views.{step}
 use Rattle.reducing.specs.Gathering.{taken}
-use Rattle.reducing.proofs.Folds.{cell_turn}
-use borrow.Author.Rules.{rules}
 use Rattle.reducing.proofs.fold_cells_flags.Given as goal
 
 abbrev pub invariant-loop-c : goal.invariant-loop-c

@@ -1,13 +1,7 @@
-use Prim.Native.Nat.{ℕ, ◌+◌, ◌-◌, ◌≤◌}
-use mathlib.Core.Path.{◌≡◌, refl}
+use mathlib.Core.Path.{refl}
 use native.Mathlib.Omega.{arith}
-use lib.IntN.{pos}
-use lib.ListN.{length}
 use Rattle.laws.proofs.Store.{store_none, store_step, store_done}
-use Rattle.views.specs.Views.{step}
 use Rattle.laws.proofs.Machine.{read_back_is, fit_at}
-use Rattle.reducing.specs.Folding.{combine_of}
-use Rattle.reducing.specs.Gathering.{taken}
 use Rattle.reducing.proofs.Folds.{cell_turn}
 use Rattle.reducing.proofs.Rooms.{small_read, room_read, cell_room}
 use borrow.Author.Rules.{rules}

@@ -1,5 +1,4 @@
 use Rattle.reducing.proofs.Folds.{run_of_one}
-use borrow.Author.Rules.{rules}
 use Rattle.reducing.proofs.fold_row_flags.Goals as goal
 
 pub returns-then-m-eq1 : goal.returns-then-m-eq1

@@ -1,6 +1,5 @@
 use native.Mathlib.Omega.{arith}
 use Rattle.reducing.proofs.Folds.{run_of_one}
-use borrow.Author.Rules.{rules}
 use Rattle.reducing.proofs.fold_row_values.Goals as goal
 
 pub cells_values-requires : goal.cells_values-requires

@@ -1,14 +1,8 @@
 use Prim.Native.Nat.{ℕ, ◌+◌, ◌*◌, ◌-◌, ◌≤◌, min}
-use mathlib.Core.Path.{◌≡◌, refl}
-use native.Mathlib.Omega.{arith}
-use native.Mathlib.Nat.{zero-mul}
+use mathlib.Core.Path.{◌≡◌}
 use lib.ListN.{length}
-use Rattle.laws.proofs.Store.{store_none, length_store}
-use Rattle.views.specs.Views.{step, span, place, reach}
-use Rattle.views.proofs.RowPlaces.{rows_below, next_block, block_fits}
+use Rattle.views.specs.Views.{step, place}
 use Rattle.reducing.specs.Gathering.{taken}
-use Rattle.reducing.proofs.Grids.{row_near, row_turn}
-use borrow.Author.Rules.{rules}
 use Rattle.reducing.proofs.fold_rows_flags.Given as goal
 
 abbrev pub invariant-loop-i : goal.invariant-loop-i

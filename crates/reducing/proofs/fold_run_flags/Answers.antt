@@ -1,8 +1,4 @@
-use Prim.Native.Nat.{ℕ, ◌+◌, ◌-◌, ◌≤◌, min}
-use mathlib.Core.Path.{◌≡◌, refl}
-use lib.ListN.{get_or}
-use Rattle.views.specs.Views.{step}
-use Rattle.reducing.specs.Folding.{fold_from}
+use mathlib.Core.Path.{refl}
 use Rattle.reducing.proofs.Folds.{fold_none, fold_turn, fold_done}
 use borrow.Author.Rules.{rules}
 use Rattle.reducing.proofs.fold_run_flags.Goals as goal

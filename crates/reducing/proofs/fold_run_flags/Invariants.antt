@@ -1,10 +1,8 @@
 use Prim.Native.Nat.{ℕ, ◌+◌, ◌-◌, ◌≤◌, min}
-use mathlib.Core.Path.{◌≡◌, refl}
+use mathlib.Core.Path.{◌≡◌}
 use lib.ListN.{get_or}
 use Rattle.views.specs.Views.{step}
 use Rattle.reducing.specs.Folding.{fold_from}
-use Rattle.reducing.proofs.Folds.{fold_none, fold_turn, fold_done}
-use borrow.Author.Rules.{rules}
 use Rattle.reducing.proofs.fold_run_flags.Given as goal
 
 abbrev pub invariant-loop-i : goal.invariant-loop-i

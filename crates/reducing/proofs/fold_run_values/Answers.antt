@@ -1,15 +1,8 @@
-use Prim.Native.Nat.{ℕ, ◌+◌, ◌-◌, ◌≤◌}
-use mathlib.Core.Path.{◌≡◌, ◌∙◌}
-use lib.IntN.{pos}
-use lib.ListN.{get_or}
-use mir.Syntax.{w64}
-use mir.Val.{to_z}
-use Rattle.laws.proofs.Machine.{read_back, read_back_is, fit_at}
-use Rattle.views.specs.Views.{step}
-use Rattle.reducing.specs.Folding.{fold_from, combine_of}
+use mathlib.Core.Path.{◌∙◌}
+use Rattle.laws.proofs.Machine.{read_back, read_back_is}
 use Rattle.reducing.proofs.Folds.{fold_none, fold_done}
 use Rattle.reducing.proofs.Rooms.{run_room, run_more}
-use borrow.Author.Rules.{rules}
+use borrow.Author.Rules.{rules, sfits_of}
 use Rattle.reducing.proofs.fold_run_values.Goals as goal
 
 pub loop-i-init : goal.loop-i-init
@@ -25,7 +18,7 @@ pub loop-i-preserved : goal.loop-i-preserved
 loop-i-preserved c =
     let a = c.args in (
       search rules,
-      read_back_is (fit_at c.combine-r.result c.combine-r.type_inv)
+      read_back_is (sfits_of c.combine-r.type_inv)
           ∙ run_more a.how (read_back a.acc) a.values.now a.p a.n a.s c.loop-i.i c.requires.2 c.loop-i-test.true c.loop-i.invariant.1
           c.step_at.ensures.0 c.combine-r.ensures,
     )

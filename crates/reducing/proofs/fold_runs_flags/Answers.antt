@@ -1,9 +1,6 @@
-use Prim.Native.Nat.{◌-◌, ◌≤◌, min}
-use mathlib.Core.Path.{◌≡◌, refl}
+use mathlib.Core.Path.{refl}
 use native.Mathlib.Omega.{arith}
-use lib.ListN.{length}
 use Rattle.laws.proofs.Store.{store_none, store_step, store_done}
-use Rattle.reducing.specs.Gathering.{taken, runs}
 use Rattle.reducing.proofs.Folds.{run_turn}
 use borrow.Author.Rules.{rules}
 use Rattle.reducing.proofs.fold_runs_flags.Goals as goal

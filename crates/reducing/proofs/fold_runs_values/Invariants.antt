@@ -1,16 +1,9 @@
 use Prim.Native.Nat.{◌-◌, ◌≤◌}
-use mathlib.Core.Path.{◌≡◌, refl}
-use native.Mathlib.Omega.{arith}
+use mathlib.Core.Path.{◌≡◌}
 use lib.IntN.{pos}
 use lib.ListN.{length}
-use Rattle.laws.proofs.Store.{store_none, store_step, store_done}
-use Rattle.laws.proofs.Machine.{read_back_is, fit_at}
-use Rattle.views.proofs.Steps.{step_le}
 use Rattle.reducing.specs.Folding.{combine_of}
 use Rattle.reducing.specs.Gathering.{taken, runs}
-use Rattle.reducing.proofs.Folds.{run_turn}
-use Rattle.reducing.proofs.Rooms.{small_kept, room_read, room_at}
-use borrow.Author.Rules.{rules}
 use Rattle.reducing.proofs.fold_runs_values.Given as goal
 
 abbrev pub invariant-loop-c : goal.invariant-loop-c

@@ -1,4 +1,3 @@
-use borrow.Author.Rules.{rules}
 use Rattle.reducing.proofs.run_flags.Goals as goal
 
 pub fold_run_flags-requires : goal.fold_run_flags-requires

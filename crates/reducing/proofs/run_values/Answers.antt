@@ -4,7 +4,6 @@ use Rattle.laws.proofs.Machine.{read_back_is, fit_at}
 use Rattle.reducing.specs.Folding.{combine_of}
 use Rattle.reducing.proofs.Folds.{fold_arm}
 use Rattle.reducing.proofs.Rooms.{how_sum, how_max}
-use borrow.Author.Rules.{rules}
 use Rattle.reducing.proofs.run_values.Goals as goal
 
 pub fold_run_values-requires : goal.fold_run_values-requires
