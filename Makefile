@@ -31,11 +31,14 @@ SOURCES = $(shell find crates -mindepth 2 -name out -prune -o -print) crates.txt
 
 all: $(ARCHIVE) $(SHARED) $(LIST) $(LUP)
 
+# The code is for every x86-64 processor: left to itself rt takes x86-64-v2, and a library does not look where it runs.
+RT_PROCESSOR = --cpu x86-64
+
 # What the prover says goes to a file, and to the terminal where something is not proved.
 $(ARCHIVE): $(SOURCES)
 	@mkdir -p build
 	@echo "proving and compiling the library (from nothing some six minutes; build/library.log)"
-	@cd crates/lupetzarin && rt lib >../../build/library.log 2>&1 || { tail -n 40 ../../build/library.log; exit 1; }
+	@cd crates/lupetzarin && rt lib $(RT_PROCESSOR) >../../build/library.log 2>&1 || { tail -n 40 ../../build/library.log; exit 1; }
 	@cp crates/lupetzarin/out/liblupetzarin.a $@
 
 # The calls of the header alone are exported, with their versions; a name that is wanted or listed and that nothing defines is an error.
@@ -46,7 +49,7 @@ $(SHARED): $(ARCHIVE) packaging/lupetzarin.map $(HEADER)
 # rt builds a program where it runs it: here on no bytes.
 $(LIST): $(SOURCES)
 	@mkdir -p build
-	@cd crates/list && rt run </dev/null >../../build/list.log 2>&1 || { tail -n 40 ../../build/list.log; exit 1; }
+	@cd crates/list && rt run $(RT_PROCESSOR) </dev/null >../../build/list.log 2>&1 || { tail -n 40 ../../build/list.log; exit 1; }
 	@cp crates/list/out/list $@
 
 $(LUP): $(HOST_SOURCES) $(HOST_HEADERS) $(ARCHIVE)

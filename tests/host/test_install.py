@@ -163,10 +163,10 @@ def test_directories(tally, folder):
 def test_nothing_built(tally, folder):
     """Where nothing is built, make says what it would build and install, and does nothing with -n."""
     copy = os.path.join(folder, 'unbuilt')
-    shutil.copytree(ROOT, copy, symlinks=True, ignore=lambda place, names: {'build', 'target', '.git'} & set(names) if place == ROOT else set())
+    shutil.copytree(ROOT, copy, symlinks=True, ignore=lambda place, names: {'build', '.git', 'out'} & set(names))
     status, text, errors = make('-n', 'install', f'DESTDIR={folder}/none', root=copy)
     tally.same('make -n install', (status, errors), (0, ''))
-    for words in ('rt staticlib lupetzarin', 'rt check list', 'gcc -shared -o build/liblupetzarin.so ', ' -o build/lup ',
+    for words in ('cd crates/lupetzarin && rt lib ', 'cd crates/list && rt run ', 'gcc -shared -o build/liblupetzarin.so ', ' -o build/lup ',
                   f"install -m 755 build/lup '{folder}/none/usr/local/bin/lup'"):
         tally.holds(words, words in text, text)
     tally.same('nothing was done', (os.path.exists(f'{copy}/build'), os.path.exists(f'{folder}/none')), (False, False))

@@ -21,12 +21,12 @@ sys.path[:0] = [HERE, os.path.join(ROOT, 'tests', 'tools')]
 from counting import Cases  # noqa: E402
 from program import Program  # noqa: E402
 
-# What stands in for the kit: the library and the listing as they were built here.
+# What stands in for the kit, in a crate's folder: the library and the listing as they were built here.
 RT = f'''#!/bin/sh
-mkdir -p target/staticlib target/bin
-case "$1 $2" in
-'staticlib lupetzarin') cp '{ROOT}/build/liblupetzarin.a' target/staticlib ;;
-'check list') cp '{ROOT}/build/list' target/bin ;;
+mkdir -p out
+case "${{PWD##*/}} $1" in
+'lupetzarin lib') cp '{ROOT}/build/liblupetzarin.a' out ;;
+'list run') cp '{ROOT}/build/list' out ;;
 *) exit 9 ;;
 esac
 '''
@@ -43,9 +43,11 @@ class Checkout(Program):
 
     def __init__(self, folder):
         super().__init__('/bin/sh', folder)
-        for name in set(os.listdir(ROOT)) - {'.git', 'build', 'target', 'tools'}:
+        for name in set(os.listdir(ROOT)) - {'.git', 'build', 'crates', 'tools'}:
             if not name.endswith(('.lup', '.plan', '.field')):
                 os.symlink(os.path.join(ROOT, name), self.at(name))
+        for name in ('lupetzarin', 'list'):
+            os.makedirs(self.at(f'crates/{name}'))
         for name, text in (('bin/rt', RT), ('tools/setup', SETUP)):
             os.makedirs(os.path.dirname(self.at(name)), exist_ok=True)
             os.chmod(self.at(self.put(name, text.encode())), 0o755)

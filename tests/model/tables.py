@@ -88,8 +88,8 @@ def buffer_text(buffer, fresh, fresh_name, texts_of):
 
 # ------------------------------------------------------------ writing cases
 
-CALLS = {'unpack': 'toUnpack', 'check': 'toCheck', 'unpack_check': 'toUnpackCheck',
-         'run': 'toRun', 'lookup': 'toLookup', 'listing': 'toList', 'pack': 'toPack'}
+CALLS = {'unpack': 'to_unpack', 'check': 'to_check', 'unpack_check': 'to_unpack_check',
+         'run': 'to_run', 'lookup': 'to_lookup', 'listing': 'to_list', 'pack': 'to_pack'}
 
 
 def call_text(case):
@@ -112,13 +112,13 @@ def result_text(case):
     if case.call == 'lookup':
         number, place, *found = answer
         return ' '.join([f'finds (answer {number} {place} 0)', *map(str, found)])
-    kinds = {'run': 'leavesBoth', 'pack': 'leavesBytes'}
+    kinds = {'run': 'leaves_both', 'pack': 'leaves_bytes'}
     texts = [kinds.get(case.call, 'leaves'), '(answer %d %d %d)' % answer]
     for buffer, make in zip(buffers, FRESH[case.call]):
         if make is fresh_flags:
-            fresh_name, texts_of = 'flagsFrom', lambda items: [listed(items)]
+            fresh_name, texts_of = 'flags_from', lambda items: [listed(items)]
         else:
-            fresh_name, texts_of = 'freshFrom', table_texts if case.call == 'unpack' else word_texts
+            fresh_name, texts_of = 'fresh_from', table_texts if case.call == 'unpack' else word_texts
         texts.append(buffer_text(buffer, make(len(buffer)), fresh_name, texts_of))
     return ' '.join(texts)
 
@@ -127,18 +127,18 @@ def result_text(case):
 
 HEAD = '-- Written by tests/model/tables.py: change that script or cases.py, never this file.\n'
 TABLE = HEAD + '''use mathlib.Core.Path.{{refl}}
-use mathlib.Core.List.{{List, [], _∷_, _++_}}
-use Rattle·guarantees.proofs.Everything.{{everything}}
-use Rattle·agreement·specs.specs.Cases.{{words, nodes, times, {names}, answer, Case, _gives_, Agree}}
+use mathlib.Core.List.{{List, [], ◌∷◌, ◌++◌}}
+use Rattle.guarantees.proofs.Everything.{{everything}}
+use Rattle.agreement.specs.Cases.{{words, nodes, times, {names}, answer, Case, ◌gives◌, Agree}}
 
 abbrev pub {name} : List Case
 {name} =
     {rows}
     ∷ []
 
-pub {name}-agrees : Agree {name}
+pub {name}_agrees : Agree {name}
 unfolding everything
-{name}-agrees = refl
+{name}_agrees = refl
 '''
 
 
@@ -146,9 +146,9 @@ unfolding everything
 # its calls, and what it cites of Cases beside what all cite.
 PACKS = ('pack',)
 OTHERS = tuple(call for call in CALLS if call not in PACKS)
-KINDS = (('Table', OTHERS, ['freshFrom', 'flagsFrom', *(CALLS[call] for call in OTHERS), 'leaves', 'leavesBoth',
+KINDS = (('Table', OTHERS, ['fresh_from', 'flags_from', *(CALLS[call] for call in OTHERS), 'leaves', 'leaves_both',
                             'finds', 'number', 'text']),
-         ('Packs', PACKS, ['flagsFrom', *(CALLS[call] for call in PACKS), 'leavesBytes']))
+         ('Packs', PACKS, ['flags_from', *(CALLS[call] for call in PACKS), 'leaves_bytes']))
 
 
 def is_large(case):

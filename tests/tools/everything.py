@@ -15,7 +15,7 @@ def text():
     for crate in CRATES:
         for path in sorted(glob.glob(os.path.join(ROOT, "crates", crate, "specs", "*.antt"))):
             for name in re.findall(r"^unfoldable pub (\S+) :", open(path).read(), re.M):
-                names.append("Rattle·%s.specs.%s.%s" % (crate, os.path.basename(path)[:-5], name))
+                names.append("Rattle.%s.specs.%s.%s" % (crate, os.path.basename(path)[:-5], name))
     return ("-- Written by tests/tools/everything.py: `unfolding everything` opens every definition of specs/, so that examples compute.\n"
             "use Prim.Native.Nat.{ℕ}\n\nunfoldable pub everything : ℕ\nunfolding " + " ".join(names) + "\neverything = 0\n")
 
