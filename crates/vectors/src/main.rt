@@ -15,10 +15,12 @@
 // tests/tools/vectors.py writes the frames; `vectors.py --list` names the case of each index.
 #![tactic(auto)]
 
-ghost use Rattle.std.specs.Prelude.{◌≡◌, true, ◌+◌, ◌*◌, ◌<◌, ◌≤◌, length};
+ghost use Rattle.std.specs.Prelude.{◌≡◌, true, ◌+◌, ◌*◌, ◌<◌, ◌≤◌, IfOk, length, take};
+ghost use Rattle.std.specs.Io.KnownBytes.{Consumes, IsAtEnd};
 
-use libc::{STDIN_FILENO, STDOUT_FILENO};
 use plan::{ElementNumber, NodeNumber};
+use std::io;
+use std::io::Read;
 
 // What came of a case.
 #[derive(Clone, Copy)]
@@ -326,58 +328,54 @@ fn frame_end(s: &[u8], at: usize) -> usize
 }
 
 // A line on a case that did not pass.
-fn report(index: usize, what: &[u8]) {
-    io::write_all(STDOUT_FILENO, b"case ");
-    io::print_decimal(STDOUT_FILENO, index as u64);
-    io::write_all(STDOUT_FILENO, what);
+fn report(rt: &impl Print, index: usize, what: &[u8]) -> io::Result<()> {
+    print!(rt; "case {index}")?;
+    rt.write_all(what)
 }
 
 // Whether the frame passes; a line where it does not.
-fn passes(s: &[u8], at: usize, end: usize, index: usize) -> bool
+fn passes(rt: &impl Print, s: &[u8], at: usize, end: usize, index: usize) -> io::Result<bool>
     requires { (at < length s.now) × (at < end) }
 {
     if s.len() < end {
-        report(index, b": cut short\n");
-        return false;
+        report(rt, index, b": cut short\n")?;
+        return Ok(false);
     }
     match run_frame(&s[at..end]) {
         Finding::Same => {
-            return true;
+            return Ok(true);
         }
         Finding::Malformed => {
-            report(index, b": malformed\n");
+            report(rt, index, b": malformed\n")?;
         }
         Finding::Different => {
-            report(index, b" of kind ");
-            io::print_decimal(STDOUT_FILENO, framing::wide(s[at]) as u64);
-            io::write_all(STDOUT_FILENO, b": differs\n");
+            report(rt, index, b" of kind ")?;
+            let kind = framing::wide(s[at]);
+            println!(rt; "{kind}: differs")?;
         }
     }
-    false
+    Ok(false)
 }
 
 // The last line.
-fn report_all(passed: usize, failed: usize) {
-    io::print_decimal(STDOUT_FILENO, passed as u64);
-    io::write_all(STDOUT_FILENO, b" passed, ");
-    io::print_decimal(STDOUT_FILENO, failed as u64);
-    io::write_all(STDOUT_FILENO, b" failed\n");
+fn report_all(rt: &impl Print, passed: usize, failed: usize) -> io::Result<()> {
+    println!(rt; "{passed} passed, {failed} failed")
 }
 
 // Every frame in turn.
-fn run_all(s: &[u8]) {
+fn run_all(rt: &impl Print, s: &[u8]) -> io::Result<()> {
     let mut at = 0;
     let mut index = 0;
     let mut failed = 0;
     while at < s.len() {
         let end = frame_end(s, at);
-        if !passes(s, at, end, index) {
+        if !passes(rt, s, at, end, index)? {
             failed += 1;
         }
         index += 1;
         at = end;
     }
-    report_all(index - failed, failed);
+    report_all(rt, index - failed, failed)
 }
 
 // Room for the frames. The `ensures` gives only the length, which lending the array as a slice needs.
@@ -387,8 +385,25 @@ fn input_buffer() -> [u8; 1310720]
     [0; 1310720]
 }
 
-fn main() {
+// Reads until the buffer is full or the input ends. How many bytes stand at the buffer's start: the input's next ones.
+fn read_full<R: Read>(input: &mut R, buffer: &mut [u8]) -> io::Result<usize>
+    ensures within { IfOk result (λ n. n ≤ length buffer.new) }
+    ensures bytes { IfOk result (λ n. Consumes (R.remaining input.old) (R.remaining input.new) (take n buffer.new)) }
+    ensures end { IfOk result (λ n. n < length buffer.new → IsAtEnd (R.remaining input.new)) }
+{
+    let mut done = 0;
+    while done < buffer.len() {
+        let n = input.read(&mut buffer[done..])?;
+        if n == 0 {
+            break;
+        }
+        done += n;
+    }
+    Ok(done)
+}
+
+fn main(rt: HostRuntime) -> io::Result<()> {
     let mut buf = input_buffer();
-    let got = io::read_full(STDIN_FILENO, &mut buf);
-    run_all(&buf[..got]);
+    let got = read_full(&mut rt.stdin(), &mut buf)?;
+    run_all(&rt, &buf[..got])
 }
