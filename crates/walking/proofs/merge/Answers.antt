@@ -1,6 +1,5 @@
-use Rattle.laws.proofs.Booleans.{on}
+use mathlib.Core.Path.{sym, ◌∙◌}
 use Rattle.walking.proofs.Walks.{plane_below, merged_still}
-use borrow.Author.Rules.{rules}
 use Rattle.walking.proofs.merge.Goals as goal
 
 pub merged_grid-requires : goal.merged_grid-requires
@@ -14,4 +13,4 @@ returns c =
     let y = c.merged_view-2.ensures in
     let d = c.merged_view-3.ensures in
     rw (x, a, y, d)
-    (merged_still w c.requires.some (on _ c.can_merge.ensures c.if-not-can_merge.false) (on _ c.can_merge-2.ensures c.if-not-can_merge-2.false) (on _ c.can_merge-3.ensures c.if-not-can_merge-3.false))
+    (merged_still w c.requires.some (sym c.can_merge.ensures ∙ c.if-not-can_merge.false) (sym c.can_merge-2.ensures ∙ c.if-not-can_merge-2.false) (sym c.can_merge-3.ensures ∙ c.if-not-can_merge-3.false))

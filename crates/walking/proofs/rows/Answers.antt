@@ -1,6 +1,5 @@
 use native.Mathlib.Omega.{arith}
 use Rattle.walking.proofs.Walks.{outer_below, rows_below}
-use borrow.Author.Rules.{rules}
 use Rattle.walking.proofs.rows.Goals as goal
 
 pub overflow_mul-result : goal.overflow_mul-result

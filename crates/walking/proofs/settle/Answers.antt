@@ -1,5 +1,4 @@
 use Rattle.walking.proofs.Walks.{still_then, still_reaches}
-use borrow.Author.Rules.{rules}
 use Rattle.walking.proofs.settle.Goals as goal
 
 pub merge-requires-2 : goal.merge-requires-2

@@ -1,4 +1,6 @@
+use mathlib.Core.Path.{◌≡◌}
 use native.Mathlib.Omega.{arith}
+use Rattle.plan.specs.Operations.{SHRINK}
 use Rattle.shapes.proofs.Extents.{extents_length}
 use Rattle.shapes.specs.Shown.{words_in}
 use Rattle.walking.proofs.Viewing.{axes_small, source_extents, axes_right, permute_view_lem, flip_view_lem, expand_view, shrink_begins, shrink_view_lem, last_viewed}
@@ -31,8 +33,7 @@ pub shrink_view-requires : goal.shrink_view-requires
 shrink_view-requires c =
     let x = c.args.x in
     let g = c.grid-g in
-    let rest = c.in_default.rest in
-    let op = last_viewed x.op c.requires.0.operation rest.0.0.1 rest.0.1 rest.1 in
+    let op : x.op ≡ SHRINK = last_viewed x.op c.requires.0.operation (search rules) (search rules) (search rules) in
     let o = rw c.rank-rank.ensures at c.words-in_default.ensures in
     (source_extents x _ g.result c.args.base c.requires.0 g.ensures, omega (arith, c.requires.1, shrink_begins x _ g.result c.args.base c.requires.0 g.ensures op c.words-in_default.result o))
 
@@ -58,6 +59,5 @@ returns-in_default c =
     let x = c.args.x in
     let g = c.grid-g in
     let a = c.words-in_default in
-    let rest = c.in_default.rest in
-    let op = last_viewed x.op c.requires.0.operation rest.0.0.1 rest.0.1 rest.1 in
+    let op : x.op ≡ SHRINK = last_viewed x.op c.requires.0.operation (search rules) (search rules) (search rules) in
     rw c.shrink_view.ensures (shrink_view_lem x _ g.result c.args.base c.requires.0 g.ensures op a.result (rw c.rank-rank.ensures at a.ensures))
