@@ -9,7 +9,7 @@ use Rattle.inputs.proofs.Scans.{part_none, part_more, part_stops}
 use Rattle.inputs.proofs.first_fault.Given as goal
 
 abbrev pub invariant-loop-i : goal.invariant-loop-i
-invariant-loop-i l = (l.i ≤ l.n) × (test_part (between (to_z w64 l.low) (to_z w64 l.high)) l.values l.flags l.from l.i ≡ accepted tt)
+invariant-loop-i l = (l.i ≤ l.n) × (test_part (between l.low l.high) l.values l.flags l.from l.i ≡ accepted tt)
 
 abbrev pub decreases-loop-i : goal.decreases-loop-i
 decreases-loop-i l = l.n - l.i

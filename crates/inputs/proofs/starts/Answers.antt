@@ -5,11 +5,11 @@ use Rattle.inputs.proofs.Sizes.{total_none, count_limited, count_next, starts_ne
 use Rattle.inputs.proofs.starts.Goals as goal
 
 pub loop-i-init : goal.loop-i-init
-loop-i-init c = (search rules, search rules, search rules, search rules, total_none (nodes_of c.args.t1 c.args.count), λ j h. absurd (not-suc-le-zero h))
+loop-i-init c = (search rules, search rules, search rules, search rules, total_none (nodes_of c.args.records c.args.count), λ j h. absurd (not-suc-le-zero h))
 
 pub overflow_add-total : goal.overflow_add-total
 overflow_add-total c =
-    let few = count_limited c.args.t1 c.args.count c.loop-i.invariant.1 c.requires.0 c.requires.1 _ c.loop-i.i c.loop-i-test.true c.count-total.result c.count-total.ensures in
+    let few = count_limited c.args.records c.args.count c.loop-i.invariant.1 c.requires.0 c.requires.1 _ c.loop-i.i c.loop-i-test.true c.count-total.result c.count-total.ensures in
     omega (arith, c.loop-i.invariant.0, c.loop-i.invariant.3, c.requires.0, few)
 
 pub loop-i-preserved : goal.loop-i-preserved
@@ -17,13 +17,13 @@ loop-i-preserved c =
     let a = c.args in
     let v = c.loop-i.invariant in
     let l = c.loop-i-test.true in
-    let few = count_limited a.t1 a.count v.1 c.requires.0 c.requires.1 _ c.loop-i.i l c.count-total.result c.count-total.ensures in (
+    let few = count_limited a.records a.count v.1 c.requires.0 c.requires.1 _ c.loop-i.i l c.count-total.result c.count-total.ensures in (
       omega (arith, l),
       v.1,
       length-set c.loop-i.starts c.loop-i.i c.loop-i.total ∙ v.2,
       omega (arith, v.3, few),
-      count_next a.t1 a.count v.1 c.requires.0 c.requires.1 _ c.loop-i.i l c.count-total.result c.count-total.ensures c.loop-i.total v.4,
-      starts_next (nodes_of a.t1 a.count) c.loop-i.starts c.loop-i.i c.loop-i.total (omega (arith, l, c.requires.0, v.2)) v.4 v.5,
+      count_next a.records a.count v.1 c.requires.0 c.requires.1 _ c.loop-i.i l c.count-total.result c.count-total.ensures c.loop-i.total v.4,
+      starts_next (nodes_of a.records a.count) c.loop-i.starts c.loop-i.i c.loop-i.total (omega (arith, l, c.requires.0, v.2)) v.4 v.5,
     )
 
 pub returns : goal.returns

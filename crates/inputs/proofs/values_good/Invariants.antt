@@ -8,7 +8,7 @@ use Rattle.inputs.proofs.Scans.{part_none, part_good}
 use Rattle.inputs.proofs.values_good.Given as goal
 
 abbrev pub invariant-loop-i : goal.invariant-loop-i
-invariant-loop-i l = (l.i ≤ l.n) × (l.found < 2 ^ 63 → test_part (between (to_z w64 l.low) (to_z w64 l.high)) l.values l.flags l.from l.i ≡ accepted tt)
+invariant-loop-i l = (l.i ≤ l.n) × (l.found < 2 ^ 63 → test_part (between l.low l.high) l.values l.flags l.from l.i ≡ accepted tt)
 
 abbrev pub decreases-loop-i : goal.decreases-loop-i
 decreases-loop-i l = l.n - l.i
