@@ -1,5 +1,5 @@
 -- Following an element back to where it comes from.
-use Rattle.std.specs.Prelude.{ℕ, zero, suc, Bool, true, false, ◌&&◌, cond, List, [], ◌∷◌, ℤ, ltb, get_or, length}
+use Rattle.std.specs.Prelude.{ℕ, zero, suc, Bool, ◌&&◌, cond, List, ℤ, ltb, get_or, length}
 use Rattle.std.proofs.Math.Option.{Option, none, some}
 use Rattle.laws.specs.Lists.{among}
 use Rattle.plan.specs.declared.NodeNumber.{NodeNumber}
@@ -7,11 +7,10 @@ use Rattle.plan.specs.declared.ElementNumber.{ElementNumber}
 use Rattle.plan.specs.declared.Answer.{Answer}
 use Rattle.plan.specs.Operations.{followed}
 use Rattle.plan.specs.Words.{node_at}
-use Rattle.plan.specs.Answers.{Outcome, accepted, refused, refuse, need, and_then, answer_of}
+use Rattle.plan.specs.Answers.{Outcome, accepted, refused, need, and_then, answer_of}
 use Rattle.shapes.specs.Sources.{source_element}
 use Rattle.rules.specs.Rules.{Derived, no_source}
 use Rattle.verifier.specs.Check.{verdict, count_of}
-use Rattle.lookup.specs.declared.Place.{Place}
 use Rattle.lookup.specs.declared.Found.{Found}
 use Rattle.lookup.specs.declared.Found.TheVariants.{At, Gap}
 use Rattle.lookup.specs.declared.Reply.{Reply}
