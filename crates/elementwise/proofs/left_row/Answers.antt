@@ -1,5 +1,4 @@
 use native.Mathlib.Omega.{arith}
-use borrow.Author.Rules.{rules}
 use Rattle.laws.proofs.Machine.{fit_at}
 use Rattle.elementwise.proofs.PowerRows.{dividing, power_row}
 use Rattle.elementwise.proofs.left_row.Goals as goal

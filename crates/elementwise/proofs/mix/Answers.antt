@@ -1,15 +1,14 @@
-use Prim.Native.Nat.{ℕ, ◌+◌, ◌*◌, ◌-◌, ◌≤◌, ◌<◌}
+use Prim.Native.Nat.{◌<◌}
 use mathlib.Core.Path.{◌≡◌, refl, ap, ◌∙◌}
 use native.Mathlib.Nat.{zero-mul}
 use native.Mathlib.Omega.{arith}
 use lib.IntN.{pos}
 use lib.ListN.{length}
 use borrow.Author.Rules.{rules}
-use Rattle.laws.specs.Store.{store}
 use Rattle.laws.proofs.Store.{store_none, length_store}
-use Rattle.views.specs.Views.{rows_of, place}
+use Rattle.views.specs.Views.{rows_of}
 use Rattle.views.proofs.RowPlaces.{rows_below, row_below, next_block, block_fits}
-use Rattle.validity.specs.Flags.{mix_flag, three}
+use Rattle.validity.specs.Flags.{mix_flag}
 use Rattle.validity.proofs.Rows.{kept, mix_turn}
 use Rattle.elementwise.specs.Mixing.{mix_value}
 use Rattle.elementwise.proofs.Rows.{small_row}

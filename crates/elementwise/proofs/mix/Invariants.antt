@@ -1,18 +1,10 @@
-use Prim.Native.Nat.{ℕ, ◌+◌, ◌*◌, ◌-◌, ◌≤◌, ◌<◌}
-use mathlib.Core.Path.{◌≡◌, refl, ap, ◌∙◌}
-use native.Mathlib.Nat.{zero-mul}
-use native.Mathlib.Omega.{arith}
-use lib.IntN.{pos}
+use Prim.Native.Nat.{ℕ, ◌+◌, ◌*◌, ◌-◌, ◌≤◌}
+use mathlib.Core.Path.{◌≡◌}
 use lib.ListN.{length}
-use borrow.Author.Rules.{rules}
 use Rattle.laws.specs.Store.{store}
-use Rattle.laws.proofs.Store.{store_none, length_store}
-use Rattle.views.specs.Views.{rows_of, place}
-use Rattle.views.proofs.RowPlaces.{rows_below, row_below, next_block, block_fits}
+use Rattle.views.specs.Views.{place}
 use Rattle.validity.specs.Flags.{mix_flag, three}
-use Rattle.validity.proofs.Rows.{kept, mix_turn}
 use Rattle.elementwise.specs.Mixing.{mix_value}
-use Rattle.elementwise.proofs.Rows.{small_row}
 use Rattle.elementwise.proofs.mix.Given as goal
 
 abbrev pub invariant-loop-i : goal.invariant-loop-i

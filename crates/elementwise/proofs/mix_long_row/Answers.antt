@@ -1,4 +1,3 @@
-use borrow.Author.Rules.{rules}
 use Rattle.elementwise.proofs.mix_long_row.Goals as goal
 
 pub mix_parts-requires : goal.mix_parts-requires

@@ -1,16 +1,10 @@
-use Prim.Native.Nat.{ℕ, ◌+◌, ◌-◌, ◌≤◌, ◌<◌}
-use mathlib.Core.Path.{◌≡◌, refl, ap, ◌∙◌}
-use native.Mathlib.Omega.{arith}
-use lib.IntN.{pos}
+use Prim.Native.Nat.{ℕ, ◌+◌, ◌-◌, ◌≤◌}
+use mathlib.Core.Path.{◌≡◌}
 use lib.ListN.{length}
-use borrow.Author.Rules.{rules}
 use Rattle.laws.specs.Store.{store}
-use Rattle.laws.proofs.Store.{store_none, store_done, length_store}
 use Rattle.views.specs.Views.{step}
 use Rattle.validity.specs.Flags.{mix_flag, three}
-use Rattle.validity.proofs.Rows.{kept}
 use Rattle.elementwise.specs.Mixing.{mix_value}
-use Rattle.elementwise.proofs.Rows.{part_start, part_below, small_part, part_turn}
 use Rattle.elementwise.proofs.mix_parts.Given as goal
 
 abbrev pub invariant-loop-i : goal.invariant-loop-i

@@ -1,4 +1,3 @@
-use borrow.Author.Rules.{rules}
 use Rattle.elementwise.proofs.plain_row.Goals as goal
 
 pub unit_values-requires : goal.unit_values-requires

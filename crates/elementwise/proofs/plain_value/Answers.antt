@@ -16,9 +16,11 @@ module _ (op : ℕ) (x y z : ℤ) where
   where_zero : op ≡ 18 → SFits w64 x → of_z w64 x ≡ 0 → z ≡ plain_value op x y z
   unfolding plain_value
   where_zero e f q = rw (e, bits_is f q) refl
+
   where_other : op ≡ 18 → (of_z w64 x ≡ 0 → ⊥) → y ≡ plain_value op x y z
   unfolding plain_value
   where_other e n = rw (e, other_bits x (pos 0) n) refl
+
   of-binary : (op ≡ 18 → ⊥) → binary op x y ≡ plain_value op x y z
   unfolding plain_value
   of-binary n = rw (ne_eqb op 18 n) refl

@@ -1,13 +1,11 @@
-use Prim.Native.Nat.{ℕ, ◌+◌, ◌-◌, ◌^◌, ◌≤◌}
-use mathlib.Core.Path.{◌≡◌, refl}
+use Prim.Native.Nat.{◌+◌}
+use mathlib.Core.Path.{refl}
 use native.Mathlib.Omega.{arith}
 use lib.IntN.{pos}
-use lib.ListN.{length, length-set, get_or}
+use lib.ListN.{length-set}
 use borrow.Author.Rules.{rules, sfits_of}
-use Rattle.laws.specs.Store.{store}
 use Rattle.laws.proofs.Store.{store_none, store_step, store_done}
 use Rattle.laws.proofs.Machine.{fit_at}
-use Rattle.cells.specs.Cells.{binary}
 use Rattle.views.specs.Views.{stride_of, step}
 use Rattle.validity.proofs.Rows.{kept, unit_step}
 use Rattle.elementwise.proofs.PowerRows.{unit_before, power_read}

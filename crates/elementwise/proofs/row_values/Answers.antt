@@ -1,14 +1,12 @@
-use Prim.Native.Nat.{ℕ, ◌+◌, ◌-◌, ◌≤◌}
-use mathlib.Core.Path.{◌≡◌, refl, ◌∙◌}
+use Prim.Native.Nat.{◌+◌}
+use mathlib.Core.Path.{refl, ◌∙◌}
 use native.Mathlib.Omega.{arith}
 use lib.IntN.{pos}
-use lib.ListN.{length, length-set}
-use Rattle.laws.specs.Store.{store}
+use lib.ListN.{length-set}
 use Rattle.laws.proofs.Store.{store_none, store_step, store_done}
 use Rattle.views.specs.Views.{step}
 use borrow.Author.Rules.{rules, sfits_of}
 use Rattle.laws.proofs.Machine.{read_back_is, fit_at}
-use Rattle.elementwise.specs.Mixing.{plain_at}
 use Rattle.validity.proofs.Rows.{kept}
 use Rattle.elementwise.proofs.Rows.{small_kept, plain_read}
 use Rattle.elementwise.proofs.row_values.Goals as goal

@@ -1,5 +1,4 @@
 use Rattle.elementwise.proofs.Arms.{last_arm}
-use borrow.Author.Rules.{rules}
 use Rattle.elementwise.proofs.unit_values.Goals as goal
 
 pub row_values-requires : goal.row_values-requires
@@ -30,7 +29,7 @@ pub row_values-requires-in-17 : goal.row_values-requires-in-17
 row_values-requires-in-17 c = rw c.in-17.is at c.requires
 
 pub row_values-requires-in_default : goal.row_values-requires-in_default
-row_values-requires-in_default c = rw (last_arm _ c.requires.0 c.requires.1 c.in_default.rest) at c.requires
+row_values-requires-in_default c = rw (last_arm _ c.requires.0 c.requires.1 c.in_default.in_default-own.rest) at c.requires
 
 pub returns-in-9 : goal.returns-in-9
 returns-in-9 c = rw c.in-9.is c.row_values.ensures
@@ -60,4 +59,4 @@ pub returns-in-17 : goal.returns-in-17
 returns-in-17 c = rw c.in-17.is c.row_values-in-17.ensures
 
 pub returns-in_default : goal.returns-in_default
-returns-in_default c = rw (last_arm _ c.requires.0 c.requires.1 c.in_default.rest) c.row_values-in_default.ensures
+returns-in_default c = rw (last_arm _ c.requires.0 c.requires.1 c.in_default.in_default-own.rest) c.row_values-in_default.ensures
