@@ -1,3 +1,4 @@
 pub mod Arms
 pub mod PowerRows
 pub mod Rows
+pub mod Sides

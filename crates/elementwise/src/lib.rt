@@ -15,6 +15,7 @@ use plan::Row;
 use views::{Stride, View};
 
 // The number of a result cell, whatever the flags are.
+#[tactic(auto, using(crate::proofs::Sides::where_zero, crate::proofs::Sides::where_other))]
 fn plain_value(op: usize, x: i64, y: i64, z: i64) -> i64
     requires { (9 ≤ op) × (op < 19) × (Small x) × (Small y) }
     ensures { result ≡ plain_value op x y z }
