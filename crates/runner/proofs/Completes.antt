@@ -1,14 +1,13 @@
 -- When a run of an accepted plan completes, and with which fields.
 use Prim.Native.Nat.{ℕ, ◌≤◌}
-use mathlib.Core.Path.{◌≡◌, refl, sym, ◌∙◌}
-use mathlib.Core.Bool.{Bool, true, ◌&&◌}
+use mathlib.Core.Path.{◌≡◌, refl, sym}
+use mathlib.Core.Bool.{◌&&◌}
 use mathlib.Core.List.{List}
 use borrow.Author.Tests.{eq-eqb, le-leb}
 use lib.IntN.{ℤ}
 use lib.Dec.{eqb, leb}
 use lib.ListN.{length}
-use Rattle.plan.specs.declared.Interval.{Interval}
-use Rattle.plan.specs.Answers.{Outcome, accepted, refused, need, and_then}
+use Rattle.plan.specs.Answers.{accepted}
 use Rattle.plan.proofs.Outcomes.{accepted_same, need_accepted, then_accepted}
 use Rattle.rules.specs.Rules.{Derived}
 use Rattle.verifier.specs.Check.{verdict, total_of}

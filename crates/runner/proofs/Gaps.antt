@@ -1,13 +1,12 @@
 -- Values under gaps never matter.
 use Prim.Native.Nat.{ℕ}
-use mathlib.Core.Path.{◌≡◌, refl, ap}
+use mathlib.Core.Path.{◌≡◌, refl}
 use mathlib.Core.List.{List}
 use lib.IntN.{ℤ, pos}
 use lib.ListN.{length, get_or}
 use Rattle.plan.specs.Answers.{Outcome, accepted, refused, and_then}
 use Rattle.rules.specs.Rules.{Derived}
 use Rattle.verifier.specs.Check.{verdict}
-use Rattle.cells.specs.Cells.{Field}
 use Rattle.runner.specs.Inputs.{input_limits}
 use Rattle.runner.specs.Run.{run_accepted, run}
 use Rattle.runner.proofs.Inputs.{tests_same, cells_same}

@@ -1,28 +1,28 @@
 -- The input of a run: where each PARAM's cells lie, and what 15 and 16 leave of them.
 use Prim.Native.Nat.{ℕ, zero, suc, ◌+◌, ◌-◌, ◌<◌, ◌≤◌}
-use mathlib.Core.Path.{◌≡◌, refl, ap, sym, ◌∙◌, subst}
-use mathlib.Core.Bool.{Bool, true, false, ◌||◌, not, cond, false≢true}
+use mathlib.Core.Path.{◌≡◌, refl, ap, ◌∙◌}
+use mathlib.Core.Bool.{true, ◌||◌, not, cond}
 use mathlib.Core.Logic.{⊎_elim}
 use mathlib.Core.List.{List, [], ◌∷◌, ◌++◌, append-nil}
 use native.Mathlib.Omega.{arith}
-use native.Mathlib.Nat.{add-zero, add_assoc, eq-or-lt_of_le, not-suc-le-zero, le_of_suc-le-suc}
+use native.Mathlib.Nat.{eq-or-lt_of_le, not-suc-le-zero, le_of_suc-le-suc}
 use borrow.Author.Tests.{eqb-true, eq-eqb, ltb-true, ltb-false, leb-true, le-leb}
 use lib.IntN.{ℤ, pos}
 use lib.Dec.{eqb, ltb, leb}
 use lib.ListN.{length, get_or, take, replicate, length-append, length-replicate, get_or-replicate}
 use Rattle.laws.specs.Lists.{tab, concat}
 use Rattle.laws.proofs.Booleans.{bool_cases, cond_both}
-use Rattle.laws.proofs.Lists.{length_tab, get_or_tab, get_or_tab_past, tab_same, tab_snoc, take_tab, concat_append, concat_at}
+use Rattle.laws.proofs.Lists.{get_or_tab, get_or_tab_past, tab_same, tab_snoc, take_tab, concat_append, concat_at}
 use Rattle.plan.specs.declared.Interval.{Interval}
 use Rattle.plan.specs.Operations.{PARAM}
 use Rattle.plan.specs.Types.{between, holds}
 use Rattle.plan.specs.Words.{node_at, if_param, over_params}
-use Rattle.plan.specs.Answers.{Refusal, Outcome, accepted, refused, need, in_turn}
+use Rattle.plan.specs.Answers.{Refusal, Outcome, accepted, refused, in_turn}
 use Rattle.plan.proofs.Outcomes.{need_accepted, turn_last, turn_more, turn_stays, turn_refused, turn_same, turn_all, turn_prefix}
-use Rattle.bounds.proofs.Sound.{held, holding}
+use Rattle.bounds.proofs.Sound.{held}
 use Rattle.rules.specs.Rules.{Derived, no_source}
 use Rattle.verifier.specs.Check.{count_of}
-use Rattle.cells.specs.Cells.{Cell, known, gap}
+use Rattle.cells.specs.Cells.{known, gap}
 use Rattle.cells.proofs.Sound.{Bounded}
 use Rattle.runner.specs.Inputs.{input_start, input_total, declared, node_limits, input_limits, input_cell, input_cells, test_input, test_at, test_inputs}
 

@@ -1,34 +1,31 @@
 -- Every known element lies in its node's bounds, at every prefix of a plan that is accepted so far.
-use Prim.Native.Nat.{ℕ, zero, suc, ◌+◌, ◌<◌, ◌≤◌}
-use mathlib.Core.Path.{◌≡◌, refl, ap, sym, ◌∙◌, subst}
-use mathlib.Core.Bool.{Bool, true, false, ◌||◌, not, cond, false≢true}
+use Prim.Native.Nat.{ℕ, ◌+◌, ◌<◌, ◌≤◌}
+use mathlib.Core.Path.{◌≡◌, refl, subst}
+use mathlib.Core.Bool.{true, false, not, false≢true}
 use mathlib.Core.List.{List, [], ◌∷◌}
 use native.Mathlib.Omega.{arith}
 use borrow.Author.Tests.{ltb-true, ltb-false}
 use lib.IntN.{ℤ, pos}
 use lib.Dec.{ltb}
-use lib.ListN.{length, get_or, take, drop, length-take, get_or-eq_default}
+use lib.ListN.{length, get_or, take, length-take, get_or-eq_default}
 use lib.Seq.{get_or-take, get_or-drop}
 use Rattle.laws.specs.Lists.{among}
-use Rattle.laws.specs.Numbering.{count}
 use Rattle.laws.proofs.Booleans.{bool_cases}
 use Rattle.laws.proofs.Induction.{each_below}
 use Rattle.plan.specs.declared.Interval.{Interval}
 use Rattle.plan.specs.declared.NodeNumber.{NodeNumber}
 use Rattle.plan.specs.declared.ElementNumber.{ElementNumber}
 use Rattle.plan.specs.Operations.{PARAM, IDIV, MOD}
-use Rattle.plan.specs.Types.{holds, contains, range_of}
+use Rattle.plan.specs.Types.{holds, range_of}
 use Rattle.plan.specs.declared.Node.{Node}
 use Rattle.plan.specs.Words.{node_at, reads}
 use Rattle.plan.proofs.ByOperation.{divides_reads}
-use Rattle.bounds.specs.Rules.{result_bounds}
 use Rattle.bounds.proofs.Sound.{In, holding, wider}
 use Rattle.rules.specs.Rules.{Derived, no_source, source_of, divisor_right}
 use Rattle.verifier.specs.Check.{first, second, third, count_of}
-use Rattle.verifier.specs.Meets.{NodeMeets, NodesMeet}
+use Rattle.verifier.specs.Meets.{NodesMeet}
 use Rattle.verifier.proofs.Nodes.{op_known, divisor_right_lem, bounds_derived, in_type, source2_before, source_is}
 use Rattle.cells.specs.Cells.{Cell, known, gap, Field, cell_at}
-use Rattle.cells.specs.Nodes.{eval_node}
 use Rattle.cells.proofs.Sound.{Bounded, Sound, NoZero, Supplied, node_sound}
 use Rattle.runner.specs.Inputs.{input_start, declared}
 use Rattle.runner.specs.Run.{no_field, field_of, operands_of, node_field, fields_to}

@@ -1,11 +1,11 @@
 -- The input of a run: "values (i64) and flags (u8, 1 known, 0 gap) of all PARAMs end to end in node order".
-use Rattle.std.specs.Prelude.{ℕ, zero, suc, ◌+◌, Bool, true, false, ◌&&◌, ◌||◌, not, cond, List, [], ◌∷◌, ◌++◌, ℤ, pos, negsuc, eqb, leb, length, get_or, replicate}
+use Rattle.std.specs.Prelude.{ℕ, ◌||◌, not, cond, List, [], ℤ, pos, eqb, leb, length, get_or, replicate}
 use Rattle.laws.specs.Lists.{tab, concat}
 use Rattle.plan.specs.declared.Interval.{Interval}
 use Rattle.plan.specs.Operations.{PARAM}
 use Rattle.plan.specs.Types.{between, holds}
 use Rattle.plan.specs.Words.{node_at, over_params}
-use Rattle.plan.specs.Answers.{Outcome, accepted, refused, refuse, need, in_turn}
+use Rattle.plan.specs.Answers.{Outcome, accepted, need, in_turn}
 use Rattle.rules.specs.Rules.{Derived, no_source}
 use Rattle.verifier.specs.Check.{count_of}
 use Rattle.cells.specs.Cells.{Cell, known, gap}

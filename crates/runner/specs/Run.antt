@@ -1,12 +1,12 @@
 -- The run of a plan.
-use Rattle.std.specs.Prelude.{ℕ, zero, suc, ◌+◌, Bool, true, false, ◌&&◌, cond, List, [], ◌∷◌, ◌++◌, map, ℤ, pos, negsuc, eqb, leb, length, get_or, drop}
+use Rattle.std.specs.Prelude.{ℕ, zero, suc, ◌&&◌, cond, List, [], ◌∷◌, ◌++◌, map, ℤ, pos, eqb, leb, length, get_or, drop}
 use Rattle.laws.specs.Lists.{concat, last_or}
 use Rattle.plan.specs.declared.Answer.{Answer}
 use Rattle.plan.specs.declared.Interval.{Interval}
 use Rattle.plan.specs.declared.Node.{Node}
 use Rattle.plan.specs.declared.NodeNumber.{NodeNumber}
 use Rattle.plan.specs.Words.{node_at, reads}
-use Rattle.plan.specs.Answers.{Outcome, accepted, refused, refuse, need, and_then, answer_of, buffer_after}
+use Rattle.plan.specs.Answers.{Outcome, accepted, need, and_then, answer_of, buffer_after}
 use Rattle.rules.specs.Rules.{Derived, no_source}
 use Rattle.verifier.specs.Check.{verdict, total_of}
 use Rattle.cells.specs.Cells.{Cell, known, gap, Field}
