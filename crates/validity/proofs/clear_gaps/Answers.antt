@@ -3,7 +3,7 @@ use native.Mathlib.Omega.{arith}
 use borrow.Author.Rules.{rules, sfits_of}
 use lib.IntN.{pos}
 use lib.ListN.{length-set}
-use Rattle.laws.proofs.Machine.{read_back_is, fit_at}
+use Rattle.laws.proofs.Machine.{read_back_is}
 use Rattle.laws.proofs.Store.{store_none, store_step, store_done, store_ahead}
 use Rattle.validity.proofs.Clearing.{cleared_read}
 use Rattle.validity.proofs.clear_gaps.Goals as goal
@@ -28,7 +28,7 @@ loop-i-preserved c =
       rw length-set c.loop-i.invariant.1,
       store_step _ _ _ _ _ _ e
           (read_back_is (sfits_of c.cleared.type_inv) ∙ c.cleared.ensures
-          ∙ cleared_read c.args.flags.now (read_back_is (fit_at _ c.x-1.given) ∙ store_ahead _ _ _ _ _ _ (pos 0) e (omega arith)) (omega (arith, place))),
+          ∙ cleared_read c.args.flags.now (read_back_is (search rules) ∙ store_ahead _ _ _ _ _ _ (pos 0) e (omega arith)) (omega (arith, place))),
     )
 
 pub returns : goal.returns

@@ -3,7 +3,7 @@ use native.Mathlib.Omega.{arith}
 use lib.IntN.{pos}
 use lib.ListN.{length-set}
 use Rattle.laws.proofs.Store.{store_none, store_step, store_done}
-use Rattle.laws.proofs.Machine.{read_back_is, fit_at}
+use Rattle.laws.proofs.Machine.{read_back_is}
 use Rattle.validity.specs.Flags.{mix_flag}
 use Rattle.validity.proofs.Rows.{kept, kept_all, three_read}
 use borrow.Author.Rules.{rules}
@@ -23,7 +23,7 @@ loop-i-preserved c =
       rw length-set c.loop-i.invariant.1,
       store_step _ _ _ _ _ _ c.loop-i.invariant.2
           (c.mix_flag.ensures _ _
-          ∙ three_read (kept_all (pos 0) a.values.now a.to) v (mix_flag a.op) (omega (arith, first)) (omega (arith, second)) (omega (arith, third)) (omega (arith, first, c.requires)) (omega (arith, second, c.requires)) (omega (arith, third, c.requires)) (read_back_is (fit_at _ c.x-1.given)) refl refl),
+          ∙ three_read (kept_all (pos 0) a.values.now a.to) v (mix_flag a.op) (omega (arith, first)) (omega (arith, second)) (omega (arith, third)) (omega (arith, first, c.requires)) (omega (arith, second, c.requires)) (omega (arith, third, c.requires)) (read_back_is (search rules)) refl refl),
     )
 
 pub returns : goal.returns

@@ -1,7 +1,8 @@
 use mathlib.Core.Path.{refl, ◌∙◌}
-use Rattle.laws.proofs.Machine.{read_back_is, fit_at}
+use borrow.Author.Rules.{rules}
+use Rattle.laws.proofs.Machine.{read_back_is}
 use Rattle.validity.proofs.Rows.{side_read}
 use Rattle.validity.proofs.side_at.Goals as goal
 
 pub returns : goal.returns
-returns c = c.side.ensures ∙ side_read c.args.values.now (read_back_is (fit_at _ c.x-1.given)) refl
+returns c = c.side.ensures ∙ side_read c.args.values.now (read_back_is (search rules)) refl
