@@ -167,7 +167,7 @@ fn node_lines(
 // The text of an accepted plan.
 fn accepted(table: &[i64], records: [Record; 256], count: usize, text: &mut [u8]) -> usize
     requires { (count ≤ 256) × (17 * count ≤ length table.now) × (text_room ≤ length text.old) }
-    ensures { Writes (text_of (accepted (record { table = table.entry.now; records = map view_of (take count records) }))) text_room text.old 0 text.new result }
+    ensures { Writes (text_of (accepted (record { table = table.now; records = map view_of (take count records) }))) text_room text.old 0 text.new result }
 {
     let at1 = copy(b"node op dtype device low high shape\n", text, 0);
     let at2 = node_lines(table, records, count, text, at1);

@@ -1,4 +1,3 @@
-use borrow.Author.Rules.{rules}
 use Rattle.laws.proofs.Pieces.{said}
 use Rattle.listing.proofs.Plans.{refused_text, accepted_text, in_table}
 use Rattle.listing.proofs.checked.Goals as goal

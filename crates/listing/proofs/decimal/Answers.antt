@@ -1,4 +1,3 @@
-use borrow.Author.Rules.{rules}
 use Rattle.verifier.specs.Listing.{decimal}
 use Rattle.listing.proofs.decimal.Goals as goal
 

@@ -1,4 +1,3 @@
-use borrow.Author.Rules.{rules}
 use Rattle.laws.proofs.Pieces.{then, said}
 use Rattle.listing.proofs.Nodes.{ends_are}
 use Rattle.listing.proofs.ends.Goals as goal

@@ -1,4 +1,3 @@
-use borrow.Author.Rules.{rules}
 use Rattle.laws.proofs.Pieces.{then}
 use Rattle.listing.proofs.line_start.Goals as goal
 

@@ -1,5 +1,4 @@
 use mathlib.Core.Path.{refl, sym}
-use borrow.Author.Rules.{rules}
 use lib.ListN.{take}
 use Rattle.laws.proofs.Lists.{take_whole}
 use Rattle.listing.proofs.Plans.{no_room, with_room}

@@ -1,5 +1,4 @@
 use native.Mathlib.Omega.{arith}
-use borrow.Author.Rules.{rules}
 use Rattle.rules.specs.Code.{view_of}
 use Rattle.laws.proofs.Pieces.{then, within, said}
 use Rattle.listing.proofs.Nodes.{line_is}

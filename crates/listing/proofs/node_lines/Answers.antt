@@ -1,13 +1,11 @@
-use Prim.Native.Nat.{◌≤◌, ◌*◌, ◌-◌}
+use Prim.Native.Nat.{◌*◌}
 use mathlib.Core.Path.{◌≡◌, refl, ap, ◌∙◌}
 use mathlib.Core.List.{map}
 use native.Mathlib.Omega.{arith}
 use borrow.Author.Rules.{rules}
-use lib.ListN.{length, take}
+use lib.ListN.{take}
 use Rattle.plan.specs.declared.Node.{Node}
 use Rattle.rules.specs.Code.{view_of}
-use Rattle.laws.specs.Pieces.{Writes}
-use Rattle.listing.specs.Text.{lines_of}
 use Rattle.laws.proofs.Pieces.{same_room, room_left}
 use Rattle.listing.proofs.Nodes.{no_lines, next_line, record_at}
 use Rattle.listing.proofs.node_lines.Goals as goal
@@ -15,7 +13,7 @@ use Rattle.listing.proofs.node_lines.Goals as goal
 pub loop-i-init : goal.loop-i-init
 loop-i-init c =
     let args = c.args in
-    (omega arith, refl, search rules, no_lines args.table.now (map view_of (take args.count args.t2)) args.text.now args.at)
+    (omega arith, refl, search rules, no_lines args.table.now (map view_of (take args.count args.records)) args.text.now args.at)
 
 pub node_at-x-requires : goal.node_at-x-requires
 node_at-x-requires c = omega (arith, c.loop-i-test.true, c.requires.1)
@@ -42,7 +40,7 @@ loop-i-preserved c =
       omega (arith, test),
       same_room line ∙ turn.invariant.1,
       turn.invariant.2,
-      next_line c.args.table.now (map view_of (take c.args.count c.args.t2)) turn.i _ _ (ap (λ (x : Node). x.op) c.node_at-x.ensures) (record_at c.args.t2 c.args.count (omega (arith, turn.invariant.2, c.requires.0)) turn.i _ test) turn.invariant.3 line,
+      next_line c.args.table.now (map view_of (take c.args.count c.args.records)) turn.i _ _ (ap (λ (x : Node). x.op) c.node_at-x.ensures) (record_at c.args.records c.args.count (omega (arith, turn.invariant.2, c.requires.0)) turn.i _ test) turn.invariant.3 line,
     )
 
 pub shape_of-text : goal.shape_of-text

@@ -1,15 +1,10 @@
 use Prim.Native.Nat.{◌≤◌, ◌*◌, ◌-◌}
-use mathlib.Core.Path.{◌≡◌, refl, ap, ◌∙◌}
+use mathlib.Core.Path.{◌≡◌}
 use mathlib.Core.List.{map}
-use native.Mathlib.Omega.{arith}
-use borrow.Author.Rules.{rules}
 use lib.ListN.{length, take}
-use Rattle.plan.specs.declared.Node.{Node}
 use Rattle.rules.specs.Code.{view_of}
 use Rattle.laws.specs.Pieces.{Writes}
 use Rattle.listing.specs.Text.{lines_of}
-use Rattle.laws.proofs.Pieces.{same_room, room_left}
-use Rattle.listing.proofs.Nodes.{no_lines, next_line, record_at}
 use Rattle.listing.proofs.node_lines.Given as goal
 
 abbrev pub invariant-loop-i : goal.invariant-loop-i

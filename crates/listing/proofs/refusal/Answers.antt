@@ -1,5 +1,4 @@
 use native.Mathlib.Omega.{arith}
-use borrow.Author.Rules.{rules}
 use Rattle.laws.proofs.Pieces.{then, within}
 use Rattle.listing.proofs.refusal.Goals as goal
 

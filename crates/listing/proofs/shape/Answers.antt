@@ -1,5 +1,4 @@
 use native.Mathlib.Omega.{arith}
-use borrow.Author.Rules.{rules}
 use Rattle.laws.proofs.Pieces.{then, within, said, room_left}
 use Rattle.listing.proofs.Shapes.{rank_0, rank_1, rank_2, rank_3, rank_4}
 use Rattle.listing.proofs.shape.Goals as goal

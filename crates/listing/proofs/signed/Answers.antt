@@ -1,5 +1,4 @@
 use native.Mathlib.Omega.{arith}
-use borrow.Author.Rules.{rules}
 use Rattle.laws.proofs.Machine.{cast_index, flip_fits, flip_cast}
 use Rattle.laws.proofs.Pieces.{said, within}
 use Rattle.listing.proofs.Numbers.{flip_next, minus_is, plain_is}
