@@ -52,7 +52,7 @@ unfoldable pub fold_cells : (ℤ → ℤ → ℤ) → Cell → List Cell → Cel
 fold_cells f c [] = c
 fold_cells f c (d ∷ ds) = fold_cells f (both f c d) ds
 
--- REDUCE gathers at least one element (`gathered-some` of shapes), so the first case is not reached
+-- REDUCE gathers at least one element (`gathered_some` of shapes), so the first case is not reached
 abbrev pub reduce_cells : (ℤ → ℤ → ℤ) → List Cell → Cell
 reduce_cells f [] = gap
 reduce_cells f (c ∷ cs) = fold_cells f c cs
