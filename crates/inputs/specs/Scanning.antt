@@ -1,5 +1,5 @@
 -- How the code reads a run's input, and the flags of its output.
-use Rattle.std.specs.Prelude.{◌≡◌, ℕ, zero, suc, ◌+◌, cond, List, ℤ, pos, ◌==◌, slice_index, slice_index_or}
+use Rattle.std.specs.Prelude.{ℕ, zero, suc, ◌+◌, cond, List, ℤ, pos, ◌==◌, slice_index, slice_index_or}
 use Rattle.plan.specs.Answers.{Outcome, accepted, refuse}
 use Rattle.cells.specs.Cells.{Cell}
 use Rattle.runner.specs.Inputs.{input_cell}

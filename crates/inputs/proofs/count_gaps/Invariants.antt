@@ -1,5 +1,4 @@
-use Rattle.std.proofs.Common.{◌≡◌, ◌+◌, ◌-◌, ◌≤◌, arith, rules}
-use Rattle.inputs.proofs.Gaps.{gaps_none, gaps_after, gaps_few}
+use Rattle.std.proofs.Common.{◌≡◌, ◌-◌, ◌≤◌}
 use Rattle.inputs.specs.Scanning.{gaps_from}
 use Rattle.inputs.proofs.count_gaps.Given as goal
 

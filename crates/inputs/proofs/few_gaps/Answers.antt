@@ -1,6 +1,5 @@
-use Rattle.std.proofs.Common.{◌≡◌, ◌+◌, ◌-◌, ◌≤◌, arith, rules}
+use Rattle.std.proofs.Common.{◌≡◌, ◌+◌, arith, rules}
 use Rattle.inputs.proofs.Gaps.{gaps_none, gaps_more, gaps_few}
-use Rattle.inputs.specs.Scanning.{gaps_from}
 use Rattle.inputs.proofs.few_gaps.Goals as goal
 
 pub loop-i-init : goal.loop-i-init

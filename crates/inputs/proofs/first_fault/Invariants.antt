@@ -1,11 +1,7 @@
-use Rattle.std.proofs.Common.{◌≡◌, ◌+◌, ◌-◌, ◌≤◌, get_or, pos, refl, arith, w64, to_z, rules}
-use Rattle.laws.specs.Lists.{among}
-use Rattle.laws.proofs.Machine.{read_back}
+use Rattle.std.proofs.Common.{◌≡◌, ◌-◌, ◌≤◌}
 use Rattle.plan.specs.Types.{between}
 use Rattle.plan.specs.Answers.{accepted}
-use Rattle.inputs.proofs.Reading.{test_read, limits_read}
 use Rattle.inputs.specs.Nodes.{test_part}
-use Rattle.inputs.proofs.Scans.{part_none, part_more, part_stops}
 use Rattle.inputs.proofs.first_fault.Given as goal
 
 abbrev pub invariant-loop-i : goal.invariant-loop-i

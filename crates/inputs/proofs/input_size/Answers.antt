@@ -1,4 +1,4 @@
-use Rattle.std.proofs.Common.{refl, ◌∙◌, rules, ne_eqb}
+use Rattle.std.proofs.Common.{refl, ◌∙◌, ne_eqb}
 use Rattle.shaping.proofs.Counts.{capped_within}
 use Rattle.inputs.proofs.input_size.Goals as goal
 

@@ -1,5 +1,4 @@
-use Rattle.std.proofs.Common.{◌≡◌, ◌-◌, ◌*◌, ◌≤◌, length, ◌∙◌, arith, rules}
-use Rattle.runner.specs.Inputs.{input_start}
+use Rattle.std.proofs.Common.{◌≡◌, ◌∙◌, arith, rules}
 use Rattle.inputs.specs.Nodes.{nodes_of}
 use Rattle.inputs.proofs.Sizes.{start_none, node_limited, part_of, input_whole}
 use Rattle.inputs.proofs.input_total.Goals as goal

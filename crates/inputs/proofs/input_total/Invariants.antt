@@ -1,7 +1,6 @@
-use Rattle.std.proofs.Common.{◌≡◌, ◌-◌, ◌*◌, ◌≤◌, length, ◌∙◌, arith, rules}
+use Rattle.std.proofs.Common.{◌≡◌, ◌-◌, ◌*◌, ◌≤◌, length}
 use Rattle.runner.specs.Inputs.{input_start}
 use Rattle.inputs.specs.Nodes.{nodes_of}
-use Rattle.inputs.proofs.Sizes.{start_none, node_limited, part_of, input_whole}
 use Rattle.inputs.proofs.input_total.Given as goal
 
 abbrev pub invariant-loop-i : goal.invariant-loop-i

@@ -1,5 +1,4 @@
-use Rattle.std.proofs.Common.{◌≡◌, ℕ, ◌+◌, ◌-◌, ◌≤◌, cond, eqb, length, get_or, refl, rules}
-use Rattle.laws.specs.Store.{store}
+use Rattle.std.proofs.Common.{refl, rules}
 use Rattle.laws.proofs.Store.{store_none, store_step, store_done}
 use Rattle.inputs.proofs.param_flags.Goals as goal
 

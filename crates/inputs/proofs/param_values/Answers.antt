@@ -1,10 +1,7 @@
 use borrow.Author.Rules.{sfits_of}
-use Rattle.std.proofs.Common.{w64, ◌≡◌, ℕ, ◌+◌, ◌-◌, ◌≤◌, length, get_or, pos, refl, ◌∙◌, to_z-of_z, rules}
-use Rattle.laws.specs.Store.{store}
+use Rattle.std.proofs.Common.{w64, ◌+◌, get_or, pos, refl, ◌∙◌, to_z-of_z, rules}
 use Rattle.laws.proofs.Store.{store_none, store_step, store_done}
-use Rattle.runner.specs.Run.{value_of}
 use Rattle.inputs.proofs.Reading.{cell_read}
-use Rattle.inputs.specs.Scanning.{cell_in}
 use Rattle.inputs.proofs.param_values.Goals as goal
 
 pub loop-i-init : goal.loop-i-init

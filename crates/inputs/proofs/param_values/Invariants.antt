@@ -1,8 +1,6 @@
-use Rattle.std.proofs.Common.{◌≡◌, ℕ, ◌+◌, ◌-◌, ◌≤◌, length, get_or, pos, refl, ◌∙◌, to_z-of_z, rules}
+use Rattle.std.proofs.Common.{◌≡◌, ℕ, ◌+◌, ◌-◌, ◌≤◌, length}
 use Rattle.laws.specs.Store.{store}
-use Rattle.laws.proofs.Store.{store_none, store_step, store_done}
 use Rattle.runner.specs.Run.{value_of}
-use Rattle.inputs.proofs.Reading.{cell_read}
 use Rattle.inputs.specs.Scanning.{cell_in}
 use Rattle.inputs.proofs.param_values.Given as goal
 

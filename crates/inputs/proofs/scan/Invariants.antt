@@ -1,13 +1,8 @@
-use Rattle.std.proofs.Common.{◌≡◌, ◌-◌, ◌*◌, ◌≤◌, length, refl, ◌∙◌, arith, rules}
-use Rattle.laws.proofs.Machine.{fit_at}
-use Rattle.laws.specs.Lists.{among}
-use Rattle.plan.specs.Types.{between}
+use Rattle.std.proofs.Common.{◌≡◌, ◌-◌, ◌*◌, ◌≤◌, length}
 use Rattle.plan.specs.Answers.{accepted}
 use Rattle.runner.specs.Inputs.{input_start, input_limits}
-use Rattle.inputs.proofs.Reading.{limits_read}
 use Rattle.inputs.specs.Nodes.{nodes_of}
-use Rattle.inputs.proofs.Sizes.{start_none, node_limited, part_of, input_whole}
-use Rattle.inputs.proofs.Scans.{test_to, whole_none, whole_more, whole_stops, whole_done}
+use Rattle.inputs.proofs.Scans.{test_to}
 use Rattle.inputs.proofs.scan.Given as goal
 
 abbrev pub invariant-loop-i : goal.invariant-loop-i

@@ -1,4 +1,4 @@
-use Rattle.std.proofs.Common.{refl, rules}
+use Rattle.std.proofs.Common.{refl}
 use Rattle.laws.specs.Lists.{among}
 use Rattle.inputs.proofs.Reading.{limits_read}
 use Rattle.inputs.proofs.scan_param.Goals as goal

@@ -1,7 +1,6 @@
-use Rattle.std.proofs.Common.{◌≡◌, ℕ, ◌-◌, ◌*◌, ◌<◌, ◌≤◌, length, get_or, take, ◌∙◌, not-suc-le-zero, arith, length-set, rules}
+use Rattle.std.proofs.Common.{◌≡◌, ℕ, ◌-◌, ◌*◌, ◌<◌, ◌≤◌, length, get_or, take}
 use Rattle.verifier.specs.Check.{total_of}
 use Rattle.inputs.specs.Nodes.{nodes_of}
-use Rattle.inputs.proofs.Sizes.{total_none, count_limited, count_next, starts_next}
 use Rattle.inputs.proofs.starts.Given as goal
 
 abbrev pub invariant-loop-i : goal.invariant-loop-i

@@ -1,9 +1,7 @@
-use Rattle.std.proofs.Common.{◌≡◌, ◌+◌, ◌-◌, ◌^◌, ◌<◌, ◌≤◌, get_or, pos, arith, w64, SFits, to_z, rules, ltb-true}
+use Rattle.std.proofs.Common.{◌≡◌, ◌+◌, get_or, pos, arith, w64, SFits, rules, ltb-true}
 use Rattle.laws.proofs.Machine.{read_back, read_back_is}
 use Rattle.plan.specs.Types.{between}
-use Rattle.plan.specs.Answers.{accepted}
 use Rattle.inputs.proofs.Reading.{test_read, limits_read}
-use Rattle.inputs.specs.Nodes.{test_part}
 use Rattle.inputs.proofs.Scans.{part_none, part_good}
 use Rattle.inputs.proofs.values_good.Goals as goal
 
