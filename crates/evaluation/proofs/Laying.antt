@@ -23,7 +23,7 @@ use Rattle.shapes.specs.Rules.{extent, word_of, same_rank, shapes_agree}
 use Rattle.shapes.specs.Sources.{in_source, pad_source, source_element, Below}
 use Rattle.shapes.proofs.Extents.{extents_positive}
 use Rattle.shapes.proofs.Sources.{pad_below}
-use Rattle.cells.specs.Cells.{gap, Field, cell_from}
+use Rattle.cells.specs.Cells.{Field, cell_from}
 use Rattle.cells.specs.Nodes.{Operands, eval_cell}
 use Rattle.runner.specs.Run.{value_of, flag_of}
 use Rattle.views.specs.Strides.{Extents}

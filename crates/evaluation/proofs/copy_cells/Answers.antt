@@ -3,7 +3,6 @@ use Rattle.views.proofs.Walking.{flat_walks}
 use native.Mathlib.Omega.{arith}
 use lib.IntN.{pos}
 use mathlib.Core.Path.{◌∙◌}
-use borrow.Author.Rules.{rules}
 use Rattle.evaluation.proofs.copy_cells.Goals as goal
 
 pub move_cells-requires : goal.move_cells-requires

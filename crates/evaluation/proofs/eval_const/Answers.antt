@@ -3,7 +3,6 @@ use lib.IntN.{ℤ}
 use lib.ListN.{set}
 use Rattle.laws.proofs.Machine.{read_back_is, fit_at}
 use Rattle.evaluation.proofs.Leaves.{const_evaluates}
-use borrow.Author.Rules.{rules}
 use Rattle.evaluation.proofs.eval_const.Goals as goal
 
 pub returns : goal.returns

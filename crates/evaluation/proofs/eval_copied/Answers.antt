@@ -1,5 +1,4 @@
 use native.Mathlib.Omega.{arith}
-use borrow.Author.Rules.{rules}
 use Rattle.evaluation.proofs.Leaves.{capped_is, copied_evaluates}
 use Rattle.evaluation.proofs.eval_copied.Goals as goal
 

@@ -1,6 +1,5 @@
 use Rattle.evaluation.proofs.Filled.{fill_evaluates}
 use native.Mathlib.Omega.{arith}
-use borrow.Author.Rules.{rules}
 use Rattle.evaluation.proofs.eval_filled.Goals as goal
 
 pub overlay_cells-requires : goal.overlay_cells-requires

@@ -1,7 +1,6 @@
 use Rattle.evaluation.proofs.Filled.{known_evaluates}
 use Rattle.evaluation.proofs.Leaves.{capped_is}
 use native.Mathlib.Omega.{arith}
-use borrow.Author.Rules.{rules}
 use Rattle.evaluation.proofs.eval_known.Goals as goal
 
 pub known_values-requires : goal.known_values-requires

@@ -1,7 +1,6 @@
 use Rattle.shapes.specs.Shown.{shown}
 use native.Mathlib.Omega.{arith}
 use Rattle.evaluation.proofs.Mixed.{spread_near, spread_small, mixed_evaluates}
-use borrow.Author.Rules.{rules}
 use Rattle.evaluation.proofs.eval_mixed.Goals as goal
 
 pub mix_cells-requires : goal.mix_cells-requires

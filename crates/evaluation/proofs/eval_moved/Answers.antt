@@ -1,6 +1,5 @@
 use mathlib.Core.List.{[]}
 use Rattle.evaluation.proofs.Groups.{padded_right, moves_copied, copied_count, moves_viewed, viewed_right, viewed_result}
-use borrow.Author.Rules.{rules}
 use Rattle.evaluation.proofs.eval_moved.Goals as goal
 
 pub eval_padded-requires : goal.eval_padded-requires

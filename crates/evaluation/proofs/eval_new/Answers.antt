@@ -1,5 +1,4 @@
 use Rattle.evaluation.proofs.Groups.{new_stack, new_reads, fill_reads, stack_two, filled_spreads, known_result, stacked_right}
-use borrow.Author.Rules.{rules}
 use Rattle.evaluation.proofs.eval_new.Goals as goal
 
 pub eval_filled-requires : goal.eval_filled-requires

@@ -1,7 +1,5 @@
 use native.Mathlib.Omega.{arith}
 use Rattle.evaluation.proofs.Groups.{const_result, reduced_right, reduce_reads, mixed_range, mixed_reads, where_reads, rest_moves, rest_new, moves_read, first_right}
-use borrow.Author.Rules.{rules}
-use Rattle.evaluation.proofs.eval_node.Reads as reads
 use Rattle.evaluation.proofs.eval_node.Goals as goal
 
 pub eval_const-requires : goal.eval_const-requires

@@ -2,7 +2,6 @@ use native.Mathlib.Omega.{arith}
 use Rattle.shapes.specs.Shown.{shown}
 use Rattle.views.proofs.Fronts.{grid_cells}
 use Rattle.evaluation.proofs.Laying.{pad_laid, pad_evaluates}
-use borrow.Author.Rules.{rules}
 use Rattle.evaluation.proofs.eval_padded.Goals as goal
 
 pub rows-rows-requires : goal.rows-rows-requires

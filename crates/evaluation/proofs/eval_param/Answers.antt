@@ -1,5 +1,4 @@
 use Rattle.evaluation.proofs.Leaves.{capped_is, param_evaluates}
-use borrow.Author.Rules.{rules}
 use Rattle.evaluation.proofs.eval_param.Goals as goal
 
 pub param_values-requires : goal.param_values-requires

@@ -8,7 +8,6 @@ use Rattle.shapes.specs.Shown.{shown, words_in}
 use Rattle.views.specs.Views.{reach}
 use Rattle.views.proofs.Fronts.{grid_cells, grid_extents}
 use Rattle.evaluation.proofs.Gathered.{gathered_fits, reduce_within, reduce_evaluates}
-use borrow.Author.Rules.{rules}
 use Rattle.evaluation.proofs.eval_reduced.Goals as goal
 
 pub words-axes-requires : goal.words-axes-requires
@@ -75,5 +74,6 @@ returns c =
     let view = c.gathered_view-gathered.ensures in
     let number = read_back_is (fit_at c.args.x.number c.struct_told-1.given.1.1.1.1.1.0.1) in
     let how = c.size_of_word-how.ensures ∙ ap size_of number in
-    let left = rw (view, how) at c.reduce.ensures in
-    λ o from. reduce_evaluates c.args.x _ _ c.grid-inner.result c.words-axes.result c.gathered_grid-g.result c.requires.0 c.grid-inner.ensures axes c.gathered_grid-g.ensures c.grid.result c.args.base c.grid.ensures c.settle-w.result.grid c.settle-w.result.a o _ _ c.args.start w.cells w.a from left.0 left.1
+    let values = rw (view, how) at c.reduce.ensures.values_after in
+    let flags = rw view at c.reduce.ensures.flags_after in
+    λ o from. reduce_evaluates c.args.x _ _ c.grid-inner.result c.words-axes.result c.gathered_grid-g.result c.requires.0 c.grid-inner.ensures axes c.gathered_grid-g.ensures c.grid.result c.args.base c.grid.ensures c.settle-w.result.grid c.settle-w.result.a o _ _ c.args.start w.cells w.a from values flags

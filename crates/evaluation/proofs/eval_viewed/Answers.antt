@@ -1,6 +1,5 @@
 use native.Mathlib.Omega.{arith}
 use Rattle.evaluation.proofs.Walked.{walk_evaluates, viewed_cell}
-use borrow.Author.Rules.{rules}
 use Rattle.evaluation.proofs.eval_viewed.Goals as goal
 
 pub move_cells-requires : goal.move_cells-requires

@@ -1,7 +1,6 @@
 use mathlib.Core.Path.{refl}
 use Rattle.laws.specs.Lists.{tab}
 use Rattle.shapes.specs.Rules.{gathered_extents}
-use borrow.Author.Rules.{rules}
 use Rattle.evaluation.proofs.gathered_grid.Goals as goal
 
 pub returns : goal.returns

@@ -1,6 +1,5 @@
 use native.Mathlib.Omega.{arith}
 use Rattle.evaluation.proofs.Mixed.{mixed_both, seen_alike}
-use borrow.Author.Rules.{rules}
 use Rattle.evaluation.proofs.mix_cells.Goals as goal
 
 pub settle-t-requires : goal.settle-t-requires

@@ -1,6 +1,5 @@
 use mathlib.Core.Path.{refl}
 use Rattle.evaluation.proofs.Groups.{mixed_spreads}
-use borrow.Author.Rules.{rules}
 use Rattle.evaluation.proofs.mixed_walk.Goals as goal
 
 pub returns-then-x-eq18 : goal.returns-then-x-eq18

@@ -2,7 +2,6 @@ use mathlib.Core.Path.{◌∙◌}
 use native.Mathlib.Omega.{arith}
 use lib.IntN.{pos}
 use Rattle.evaluation.proofs.Walked.{moved_alike}
-use borrow.Author.Rules.{rules}
 use Rattle.evaluation.proofs.move_cells.Goals as goal
 
 pub move_values-requires : goal.move_values-requires

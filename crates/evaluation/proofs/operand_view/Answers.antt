@@ -1,7 +1,6 @@
 use Rattle.shapes.specs.Shown.{shown}
 use Rattle.views.proofs.Fronts.{grid_extents}
 use Rattle.views.proofs.Walking.{spread_walks}
-use borrow.Author.Rules.{rules}
 use Rattle.evaluation.proofs.operand_view.Goals as goal
 
 pub spread_view-requires : goal.spread_view-requires

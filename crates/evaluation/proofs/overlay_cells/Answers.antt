@@ -1,6 +1,5 @@
 use Rattle.evaluation.proofs.Filled.{overlaid_both}
 use native.Mathlib.Omega.{arith}
-use borrow.Author.Rules.{rules}
 use Rattle.evaluation.proofs.overlay_cells.Goals as goal
 
 pub settle-t-requires : goal.settle-t-requires
