@@ -1,5 +1,7 @@
+use Prim.Native.Nat.{◌≤◌}
+use native.Mathlib.Omega.{arith}
 use mathlib.Core.Path.{refl, sym}
-use lib.ListN.{take}
+use lib.ListN.{length, take}
 use Rattle.laws.proofs.Lists.{take_whole}
 use Rattle.listing.proofs.Plans.{no_room, with_room}
 use Rattle.listing.proofs.list.Goals as goal
@@ -15,4 +17,5 @@ returns-then-bytes-gt12288 c =
 pub returns : goal.returns
 returns c =
     let s = c.args.bytes.now in
-    with_room s c.args.text.now s c.if-text-lt65536.false (sym (take_whole 12288 s c.if-bytes-gt12288.false)) c.unpacked-2.ensures
+    let all : length s ≤ 12288 = omega arith in
+    with_room s c.args.text.now s c.if-text-lt65536.false (sym (take_whole 12288 s all)) c.unpacked-2.ensures
