@@ -1,6 +1,5 @@
 use mathlib.Core.Path.{refl, sym, ap, ◌∙◌}
 use Rattle.rules.specs.Rules.{Derived}
-use borrow.Author.Rules.{rules}
 use Rattle.running.proofs.operand.Goals as goal
 
 pub returns-then-reads : goal.returns-then-reads

@@ -9,7 +9,6 @@ use Rattle.inputs.specs.Nodes.{nodes_of}
 use Rattle.running.specs.Running.{Fed}
 use Rattle.running.proofs.Plans.{as_many, some_node, table_long, limited}
 use Rattle.running.proofs.Endings.{refusal_ends, wrong_values, wrong_flags, short_values, short_flags, bad_input, good_input, output_room, completes}
-use borrow.Author.Rules.{rules}
 use Rattle.running.proofs.run_accepted.Goals as goal
 
 pub input_total-size-requires : goal.input_total-size-requires

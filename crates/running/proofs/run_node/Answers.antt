@@ -1,12 +1,11 @@
 use native.Mathlib.Omega.{arith}
-use borrow.Author.Rules.{rules}
 use Rattle.inputs.proofs.Sizes.{node_limited}
 use Rattle.running.proofs.Plans.{table_long, limited}
 use Rattle.running.proofs.Turns.{start_is, extents_are, taken_is, three_picked, ready, leaves}
 use Rattle.running.proofs.run_node.Goals as goal
 
 pub node_at-x-requires : goal.node_at-x-requires
-node_at-x-requires c = omega (arith, c.requires.inside, table_long c.args.table.now c.args.t2 c.args.count c.requires.checked)
+node_at-x-requires c = omega (arith, c.requires.inside, table_long c.args.table.now c.args.records c.args.count c.requires.checked)
 
 pub offset_bounds-records-i : goal.offset_bounds-records-i
 offset_bounds-records-i c = omega (arith, c.requires.inside, c.requires.checked.few)
@@ -29,7 +28,7 @@ eval_node-requires c =
 pub input_size-requires : goal.input_size-requires
 input_size-requires c =
     let a = c.args in
-    node_limited a.t2 a.count c.requires.checked.long c.requires.checked.few _ a.i c.requires.inside (limited a.table.now a.t2 a.count c.requires.checked)
+    node_limited a.records a.count c.requires.checked.long c.requires.checked.few _ a.i c.requires.inside (limited a.table.now a.records a.count c.requires.checked)
 
 pub returns : goal.returns
 returns c =

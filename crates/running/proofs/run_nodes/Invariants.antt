@@ -1,14 +1,9 @@
 use Prim.Native.Nat.{◌-◌, ◌*◌, ◌≤◌}
 use mathlib.Core.Path.{◌≡◌}
-use native.Mathlib.Omega.{arith}
-use borrow.Author.Rules.{rules}
 use Rattle.runner.specs.Inputs.{input_start, input_cells}
 use Rattle.runner.specs.Run.{value_of, flag_of}
 use Rattle.inputs.specs.Nodes.{nodes_of}
-use Rattle.inputs.proofs.Sizes.{start_none}
 use Rattle.running.specs.Running.{laid_to}
-use Rattle.running.proofs.EndToEnd.{laid_none, laid_length}
-use Rattle.running.proofs.OneMore.{taken_few, taken_next, turning, one_more}
 use Rattle.running.proofs.run_nodes.Given as goal
 
 abbrev pub invariant-loop-i : goal.invariant-loop-i
