@@ -1,4 +1,3 @@
-use borrow.Author.Rules.{rules}
 use Rattle.following.proofs.Tracing.{not_accepted, is_written, no_node, is_there_lem, words_there, no_element, all_there, finds}
 use Rattle.following.proofs.lookup.Goals as goal
 

@@ -1,13 +1,11 @@
 use Prim.Native.Nat.{◌%◌}
 use native.Mathlib.Omega.{arith}
-use borrow.Author.Tests.{not-true, not-false}
 use Rattle.shapes.specs.Shown.{shown}
 use Rattle.views.proofs.Fronts.{grid_cells}
 use Rattle.views.proofs.Axiswise.{fourth_pos, row_lt}
 use Rattle.views.proofs.Padding.{band_in}
 use Rattle.evaluation.proofs.Laying.{pad_laid}
 use Rattle.following.proofs.Elements.{row_gap, column_gap, laid_element}
-use borrow.Author.Rules.{rules}
 use Rattle.following.proofs.padded_origin.Goals as goal
 
 pub nonzero_div-row : goal.nonzero_div-row
@@ -16,7 +14,7 @@ nonzero_div-row c =
     fourth_pos over.result c.args.e (rw (grid_cells (shown c.args.r) over.result over.ensures) c.requires.1)
 
 pub nonzero_rem-column : goal.nonzero_rem-column
-nonzero_rem-column c = div_row c
+nonzero_rem-column c = nonzero_div-row c
 
 pub row_inside-requires : goal.row_inside-requires
 row_inside-requires c =
@@ -32,45 +30,46 @@ returns-then-not-row_inside c =
     let under = c.grid-inner in
     let over = c.grid-g in
     let o = rw c.rank.ensures at c.words-offsets.ensures in
-    row_gap c.args.x _ _ under.result over.result c.words-offsets.result c.requires.0 under.ensures over.ensures o c.args.e c.requires.1 (not-true _ (rw c.row_inside.ensures at c.if-not-row_inside.true))
+    row_gap c.args.x _ _ under.result over.result c.words-offsets.result c.requires.0 under.ensures over.ensures o c.args.e c.requires.1 (rw c.row_inside.ensures at c.if-not-row_inside.true)
 
 pub in_band-requires : goal.in_band-requires
-in_band-requires c = let laid = (row-inside-requires c κs).0 in omega (arith, laid.l3, laid.narrow)
+in_band-requires c =
+    let o = rw c.rank.ensures at c.words-offsets.ensures in
+    let laid = pad_laid c.args.x _ _ c.grid-inner.result c.grid-g.result c.words-offsets.result c.requires.0 c.grid-inner.ensures c.grid-g.ensures o in
+    omega (arith, laid.l3, laid.narrow)
 
 pub returns-then-not-in_band : goal.returns-then-not-in_band
 returns-then-not-in_band c =
     let under = c.grid-inner in
     let over = c.grid-g in
     let o = rw c.rank.ensures at c.words-offsets.ensures in
-    let inside = not-false _ (rw c.row_inside.ensures at c.if-not-row_inside.false) in
-    column_gap c.args.x _ _ under.result over.result c.words-offsets.result c.requires.0 under.ensures over.ensures o c.args.e c.requires.1 inside (not-true _ (rw c.in_band.ensures at c.if-not-in_band.true))
+    let inside = rw c.row_inside.ensures at c.if-not-row_inside.false in
+    column_gap c.args.x _ _ under.result over.result c.words-offsets.result c.requires.0 under.ensures over.ensures o c.args.e c.requires.1 inside (rw c.in_band.ensures at c.if-not-in_band.true)
 
 pub row_start-begins-requires : goal.row_start-begins-requires
 row_start-begins-requires c =
     let under = c.grid-inner in
-    let laid = row-inside-requires q κs in
-    let inside = not-false _ (rw c.row_inside.ensures at c.if-not-row_inside.false) in
-    (laid.0, laid.1, inside, omega (arith, grid_cells (shown c.args.s) under.result under.ensures, c.requires.0.few))
+    let over = c.grid-g in
+    let o = rw c.rank.ensures at c.words-offsets.ensures in
+    let laid = pad_laid c.args.x _ _ under.result over.result c.words-offsets.result c.requires.0 under.ensures over.ensures o in
+    let low = row_lt over.result c.args.e (rw (grid_cells (shown c.args.r) over.result over.ensures) c.requires.1) in
+    let inside = rw c.row_inside.ensures at c.if-not-row_inside.false in
+    (laid, low, inside, omega (arith, grid_cells (shown c.args.s) under.result under.ensures, c.requires.0.few))
 
--- LOST overflow-sub-t12
--- sub-t12 : tie.Need-overflow-sub-t12
--- sub-t12 c = (band_in _ _ _ (not-false _ (rw c.before.before.before.in-band.ensures at c.before.before.if2.false))).0
+pub overflow_sub-result : goal.overflow_sub-result
+overflow_sub-result c = (band_in _ _ _ (rw c.in_band.ensures at c.if-not-in_band.false)).0
 
--- LOST overflow-add-t15
--- add-t15 : tie.Need-overflow-add-t15
--- add-t15 c =
---     let q = c.before.before.before.before.before.before in
---     let p = q.before.before.before.before in
---     let under = q.before.before.grid2 in
---     let over = q.before.before.before.grid in
---     let column = band_in q.words.result.r3 under.result.r3 (p.args.e % over.result.r3) (not-false _ (rw c.before.before.before.in-band.ensures at c.before.before.if2.false)) in
---     omega (arith, column.1, c.before.row-start.ensures.1, grid_cells (shown p.args.s) under.result under.ensures, p.requires.0.few)
+pub overflow_add-result : goal.overflow_add-result
+overflow_add-result c =
+    let under = c.grid-inner in
+    let column = band_in c.words-offsets.result.r3 under.result.r3 (c.args.e % c.grid-g.result.r3) (rw c.in_band.ensures at c.if-not-in_band.false) in
+    omega (arith, column.1, c.row_start-begins.ensures.1, grid_cells (shown c.args.s) under.result under.ensures, c.requires.0.few)
 
 pub returns : goal.returns
 returns c =
     let under = c.grid-inner in
     let over = c.grid-g in
     let o = rw c.rank.ensures at c.words-offsets.ensures in
-    let inside = not-false _ (rw c.row_inside.ensures at c.if-not-row_inside.false) in
-    let column = not-false _ (rw c.in_band.ensures at c.if-not-in_band.false) in
+    let inside = rw c.row_inside.ensures at c.if-not-row_inside.false in
+    let column = rw c.in_band.ensures at c.if-not-in_band.false in
     laid_element c.args.x _ _ under.result over.result c.words-offsets.result c.requires.0 under.ensures over.ensures o c.args.e c.requires.1 inside column c.row_start-begins.ensures.0

@@ -1,4 +1,3 @@
-use borrow.Author.Rules.{rules}
 use Rattle.following.proofs.shape_at.Goals as goal
 
 pub narrow-requires : goal.narrow-requires

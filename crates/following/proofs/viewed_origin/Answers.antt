@@ -6,7 +6,6 @@ use Rattle.views.proofs.Fronts.{grid_cells}
 use Rattle.views.proofs.Axiswise.{fourth_pos, row_lt}
 use Rattle.views.proofs.RowPlaces.{rows_below}
 use Rattle.following.proofs.Elements.{walked_element}
-use borrow.Author.Rules.{rules}
 use Rattle.following.proofs.viewed_origin.Goals as goal
 
 pub nonzero_div-e : goal.nonzero_div-e
@@ -19,14 +18,14 @@ row_place-begins-requires c =
     (row_lt g.result c.args.e (rw (grid_cells (shown c.args.r) g.result g.ensures) c.requires.2), rows_below g.result c.view_of-v.result (omega (arith, w.inside, c.requires.0.few)))
 
 pub nonzero_rem-e : goal.nonzero_rem-e
-nonzero_rem-e c = div-row-place c
+nonzero_rem-e c = fourth_pos c.grid-g.result c.args.e (rw (grid_cells (shown c.args.r) c.grid-g.result c.grid-g.ensures) c.requires.2)
 
 pub step_at-requires : goal.step_at-requires
 unfolding reach
 step_at-requires c =
     let g = c.grid-g in
     let w = c.view_of-v.ensures g.result (rw c.requires.1 at g.ensures) in
-    (mod-lt c.args.e (div-row-place c), omega (arith, w.inside, c.requires.0.few))
+    (mod-lt c.args.e (fourth_pos g.result c.args.e (rw (grid_cells (shown c.args.r) g.result g.ensures) c.requires.2)), omega (arith, w.inside, c.requires.0.few))
 
 pub overflow_add-result : goal.overflow_add-result
 unfolding reach
