@@ -4,14 +4,14 @@
 usage: wrong_definitions.py [NAME..]     last line: 'N passed, 0 failed', N the number of wrong definitions
 
 The definitions (specs/ of the crates that guarantees names, and the types that their code declares) are copied without
-their proofs, which would fail one after another and show nothing of the statement. In the copy one definition is
-spoilt, and a proof that the statement is false has to be accepted by rt. With the definition as it is, the same proof
-has to be refused.
+their proofs, which would fail one after another and show nothing of the statement, and into one crate, so that rt has
+one to check. In the copy one definition is spoilt, and a proof that the statement is false has to be accepted by rt.
+With the definition as it is, the same proof has to be refused.
 """
 
+import glob
 import os
 import re
-import shutil
 import subprocess
 import sys
 import tempfile
@@ -19,61 +19,61 @@ from collections import namedtuple
 
 ROOT = os.path.dirname(os.path.dirname(os.path.dirname(os.path.abspath(__file__))))
 CRATES = 'laws plan codec packing shapes bounds rules verifier cells runner lookup guarantees'.split()
-REFUTED = 'crates/guarantees/proofs/Refuted.antt'
+EVERYTHING = 'crates/guarantees/proofs/Everything.antt'
 
 # file below crates/, the text in it and what stands there instead; the statement that is false then, and the proof of that.
 Wrong = namedtuple('Wrong', 'name file right wrong statement proof')
 
-HEAD = '''use Prim.Native.Nat.{ℕ, zero, suc, _+_, _*_, _/_, _<_, _≤_}
-use mathlib.Core.Path.{_≡_, refl, ap, sym, _∙_}
-use mathlib.Core.Logic.{_⊎_, inl, inr, ⊎-elim}
+HEAD = '''use Prim.Native.Nat.{ℕ, zero, suc, ◌+◌, ◌*◌, ◌/◌, ◌<◌, ◌≤◌}
+use mathlib.Core.Path.{◌≡◌, refl, ap, sym, ◌∙◌}
+use mathlib.Core.Logic.{◌⊎◌, inl, inr, ⊎_elim}
 use mathlib.Core.Bool.{true, false, true≢false}
-use mathlib.Core.List.{List, [], _∷_, _++_}
+use mathlib.Core.List.{List, [], ◌∷◌, ◌++◌}
 use native.Mathlib.Omega.{arith}
-use lib.IntN.{ℤ, pos, negsuc, natAbs}
-use lib.Signed.{_≤ℤ_, _<ℤ_}
-use lib.ListN.{getD, length, replicate}
-use Rattle·plan.specs.declared.Answer.{Answer}
-use Rattle·plan.specs.declared.ElementNumber.{ElementNumber}
-use Rattle·plan.specs.Types.{between}
-use Rattle·plan.specs.Words.{node, element}
-use Rattle·plan.specs.Answers.{Outcome, accepted, refused}
-use Rattle·rules.specs.Rules.{Derived}
-use Rattle·verifier.specs.Check.{verdict, checkAnswer}
-use Rattle·verifier.specs.Meets.{ruleHolds, NodeMeets, MeetsAt, NodesMeet}
-use Rattle·cells.specs.Cells.{Cell, known, gap}
-use Rattle·runner.specs.Run.{fieldsOf, valueOf, flagOf}
-use Rattle·lookup.specs.declared.Reply.{Reply}
-use Rattle·guarantees·specs.specs.Questions.{u8, i16, i32, zeros, param, constant, movement, binary, reduce, stack, cast}
-use Rattle·guarantees·specs.specs.Demand3.{Lent, word, asCount, elements, resultAt, Proper}
-use Rattle·guarantees·specs.specs.Rules.{ReadsSource, RulesSay}
-use Rattle·guarantees·specs.specs.Acceptance.{Nodes, Acceptance, bad-node}
-use Rattle·guarantees·specs.specs.Values.{EveryValue, Moved, from, new}
-use Rattle·guarantees·specs.specs.Runs.{RunsExactly}
-use Rattle·guarantees·specs.specs.Ranges.{RangesSay}
-use Rattle·guarantees·specs.specs.Records.{RecordsSay}
-use Rattle·guarantees·specs.specs.Checks.{ChecksExactly}
-use Rattle·guarantees·specs.specs.Unpacks.{Opens, first-edition, second-edition, New, Begins, first, next-node, UnpacksExactly}
-use Rattle·guarantees·specs.specs.Packs.{RoundTrips}
-use Rattle·guarantees·specs.specs.Refusals.{RefusalsKeep}
-use Rattle·guarantees·specs.specs.Lookups.{LeadsTo, LookupAgrees, here}
-use Rattle·guarantees·specs.specs.Whole.{FromBytes}
-use Rattle·guarantees·specs.specs.Witnesses.{division, divisionRecords, lend, PremisesMet}
-use Rattle·guarantees·proofs.proofs.Everything.{everything}
+use lib.IntN.{ℤ, pos, negsuc, nat_abs}
+use lib.Signed.{◌≤ℤ◌, ◌<ℤ◌}
+use lib.ListN.{get_or, length, replicate}
+use Rattle.plan.specs.declared.Answer.{Answer}
+use Rattle.plan.specs.declared.ElementNumber.{ElementNumber}
+use Rattle.plan.specs.Types.{between}
+use Rattle.plan.specs.Words.{node, element}
+use Rattle.plan.specs.Answers.{Outcome, accepted, refused}
+use Rattle.rules.specs.Rules.{Derived}
+use Rattle.verifier.specs.Check.{verdict, check_answer}
+use Rattle.verifier.specs.Meets.{rule_holds, NodeMeets, MeetsAt, NodesMeet}
+use Rattle.cells.specs.Cells.{Cell, known, gap}
+use Rattle.runner.specs.Run.{fields_of, value_of, flag_of}
+use Rattle.lookup.specs.declared.Reply.{Reply}
+use Rattle.guarantees.specs.Questions.{u8, i16, i32, zeros, param, constant, movement, binary, reduce, stack, cast}
+use Rattle.guarantees.specs.Demand3.{Lent, word, as_count, elements, result_at, Proper}
+use Rattle.guarantees.specs.Rules.{ReadsSource, RulesSay}
+use Rattle.guarantees.specs.Acceptance.{Nodes, Acceptance, bad_node}
+use Rattle.guarantees.specs.Values.{EveryValue, Moved, from, new}
+use Rattle.guarantees.specs.Runs.{RunsExactly}
+use Rattle.guarantees.specs.Ranges.{RangesSay}
+use Rattle.guarantees.specs.Records.{RecordsSay}
+use Rattle.guarantees.specs.Checks.{ChecksExactly}
+use Rattle.guarantees.specs.Unpacks.{Opens, first_edition, second_edition, New, Begins, first, next_node, UnpacksExactly}
+use Rattle.guarantees.specs.Packs.{RoundTrips}
+use Rattle.guarantees.specs.Refusals.{RefusalsKeep}
+use Rattle.guarantees.specs.Lookups.{LeadsTo, LookupAgrees, here}
+use Rattle.guarantees.specs.Whole.{FromBytes}
+use Rattle.guarantees.specs.Witnesses.{division, division_records, lend, PremisesMet}
+use Rattle.guarantees.proofs.Everything.{everything}
 
 never : {m n : ℕ} → m ≡ n → (m ≡ n → ⊥) → ⊥
 never e f = f e
 
 -- two cells with other numbers or flags
-apart : {c d : Cell} → c ≡ d → (flagOf c + natAbs (valueOf c) ≡ flagOf d + natAbs (valueOf d) → ⊥) → ⊥
-apart e f = f (ap (λ (c : Cell). flagOf c + natAbs (valueOf c)) e)
+apart : {c d : Cell} → c ≡ d → (flag_of c + nat_abs (value_of c) ≡ flag_of d + nat_abs (value_of d) → ⊥) → ⊥
+apart e f = f (ap (λ (c : Cell). flag_of c + nat_abs (value_of c)) e)
 
 -- records of a type and extents, of one device
 abbrev derived : ℕ → ℕ → ℤ → ℤ → List ℕ → Derived
 derived dtype device low high extents = record { dtype = dtype; device = device; bounds = between low high; extents = extents }
 
 abbrev nothing : Lent
-nothing = record { values = []; flags = []; valueBuffer = []; flagBuffer = [] }
+nothing = record { values = []; flags = []; value_buffer = []; flag_buffer = [] }
 
 '''
 
@@ -94,8 +94,8 @@ def by_number(name, premises, says, first, last):
                       f'{name} {more} {arguments} = absurd (omega arith)']) + '\n\n'
 
 
-TWO_RULES = '''abbrev twoRules : List ℤ
-twoRules = param 0 0 (pos 0) (pos 1) [] ++ reduce 0 5 []
+TWO_RULES = '''abbrev two_rules : List ℤ
+two_rules = param 0 0 (pos 0) (pos 1) [] ++ reduce 0 5 []
 
 abbrev before : List Derived
 before = derived 0 1 (pos 0) (pos 1) [] ∷ []
@@ -104,242 +104,242 @@ before = derived 0 1 (pos 0) (pos 1) [] ∷ []
 
 WRONG = (
     Wrong('every cell a gap', 'cells/specs/Nodes.antt',
-          'evalCell x r s e = byOperation (x .op) (cellRules x r s e) gap', 'evalCell x r s e = gap', 'EveryValue', '''
+          'eval_cell x r s e = by_operation x.op (cell_rules x r s e) gap', 'eval_cell x r s e = gap', 'EveryValue', '''
 refuted h =
     let two = h (constant i16 (pos 2)) (derived i16 0 (pos 2) (pos 2) [] ∷ []) nothing 0 (element 0) refl refl (omega arith) (omega arith) in
-    apart (two .constant refl) (λ e. absurd (omega (arith, e)))
+    apart (two.constant refl) (λ e. absurd (omega (arith, e)))
 '''),
     Wrong('the first node copied to the rest', 'runner/specs/Run.antt',
-          'cells = evalNode (nodeAt t n) r (operandsOf t ds input n earlier)',
-          'cells = evalNode (nodeAt t 0) r (operandsOf t ds input 0 earlier)', 'EveryValue', '''
+          'cells = eval_node (node_at t n) r (operands_of t ds input n earlier)',
+          'cells = eval_node (node_at t 0) r (operands_of t ds input 0 earlier)', 'EveryValue', '''
 refuted h =
     let five = h (constant i16 (pos 2) ++ constant i16 (pos 5)) (derived i16 0 (pos 2) (pos 2) [] ∷ derived i16 0 (pos 5) (pos 5) [] ∷ []) nothing 1 (element 0) refl refl (omega arith) (omega arith) in
-    apart (five .constant refl) (λ e. absurd (omega (arith, e)))
+    apart (five.constant refl) (λ e. absurd (omega (arith, e)))
 '''),
     Wrong('FLIP never reverses', 'shapes/specs/Sources.antt',
           '(extent s k - 1 - coord r e k) (coord r e k)', '(coord r e k) (coord r e k)', 'EveryValue', '''
 refuted h =
     let first = h flipped ends two 1 (element 0) refl refl (omega arith) (omega arith) in
-    moved (first .moved 3 refl (inl (omega arith, omega arith)))
+    moved (first.moved 3 refl (inl (omega arith, omega arith)))
   where
-    at : (k : ℕ) → k / 1 + 0 + 1 ≡ 2 → known (pos 1) ≡ getD (known (pos 1) ∷ known (pos 2) ∷ []) k gap → ⊥
+    at : (k : ℕ) → k / 1 + 0 + 1 ≡ 2 → known (pos 1) ≡ get_or (known (pos 1) ∷ known (pos 2) ∷ []) k gap → ⊥
     at zero e c = absurd (omega (arith, e))
     at (suc zero) e c = apart c (λ z. absurd (omega (arith, z)))
     at (suc (suc k)) e c = absurd (omega (arith, e))
 
     moved : Moved flipped ends two 1 (element 0) 3 → ⊥
-    moved (from m c e) = at (m .0) (c .flip refl 0 (omega arith) .0 refl) e
+    moved (from m c e) = at m.0 ((c.flip refl 0 (omega arith)).0 refl) e
     moved (new z c e) = absurd (omega (arith, z))
 '''),
     Wrong('rules 6 and 7 swapped', 'rules/specs/Rules.antt',
-          '    ∷ rule 6 (typesAgree x (a .dtype) (b .dtype) (c .dtype))\n'
-          '    ∷ rule 7 (rowsRight x params (length (a .extents)))\n',
-          '    ∷ rule 7 (rowsRight x params (length (a .extents)))\n'
-          '    ∷ rule 6 (typesAgree x (a .dtype) (b .dtype) (c .dtype))\n', 'Acceptance', '''
+          '    ∷ rule 6 (types_agree x a.dtype b.dtype c.dtype)\n'
+          '    ∷ rule 7 (rows_right x params (length a.extents))\n',
+          '    ∷ rule 7 (rows_right x params (length a.extents))\n'
+          '    ∷ rule 6 (types_agree x a.dtype b.dtype c.dtype)\n', 'Acceptance', '''
 refuted h =
-    let nodes : Nodes twoRules 2 = record { words = refl; some = omega arith; few = omega arith } in
-    let six = h .refused-when twoRules (record { number = 6; place = 1 }) .1 (bad-node {m = 2} {n = 1} {k = 6} {ds = before} nodes (omega arith) first (omega arith) (omega arith) smaller refl) in
-    never (ap (λ (o : Outcome (List Derived)). checkAnswer o .number) six) (λ e. absurd (omega (arith, e)))
+    let nodes : Nodes two_rules 2 = record { words = refl; some = omega arith; few = omega arith } in
+    let six = (h.refused_when two_rules (record { number = 6; place = 1 })).1 (bad_node {m = 2} {n = 1} {k = 6} {ds = before} nodes (omega arith) first (omega arith) (omega arith) smaller refl) in
+    never (ap (λ (o : Outcome (List Derived)). (check_answer o).number) six) (λ e. absurd (omega (arith, e)))
   where
-    each : (i : ℕ) → i < 1 → MeetsAt twoRules before i
+    each : (i : ℕ) → i < 1 → MeetsAt two_rules before i
     each zero l = record { holds = all; derived = refl }
     each (suc i) l = absurd (omega arith)
 
-    first : NodesMeet twoRules 1 before
-    first = record { as-many = refl; each = each }
+    first : NodesMeet two_rules 1 before
+    first = record { as_many = refl; each = each }
 '''),
     Wrong('rule 6 always holds', 'rules/specs/Rules.antt',
-          'typesAgree x a b c = byOperation (x .op) (typeRules x a b c) false', 'typesAgree x a b c = true', 'RulesSay', '''
-refuted h = (h .rule-6 twoRules 1 before 19 refl (omega arith) .0 refl) .reduces refl refl
+          'types_agree x a b c = by_operation x.op (type_rules x a b c) false', 'types_agree x a b c = true', 'RulesSay', '''
+refuted h = ((h.rule_6 two_rules 1 before 19 refl (omega arith)).0 refl).reduces refl refl
 '''),
     Wrong('rule 3 always holds', 'plan/specs/Words.antt',
-          'unusedZero op w = allBelow wordsPerNode', 'unusedZero op w = true || allBelow wordsPerNode', 'RulesSay', '''
-refuted h = never (ap natAbs (h .rule-3 (pos 0 ∷ zeros 8 ++ pos 7 ∷ zeros 7) 0 [] 0 refl (omega arith) .0 refl 9 (omega arith) (omega arith) refl)) (λ e. absurd (omega (arith, e)))
+          'unused_zero op w = all_below words_per_node', 'unused_zero op w = true || all_below words_per_node', 'RulesSay', '''
+refuted h = never (ap nat_abs ((h.rule_3 (pos 0 ∷ zeros 8 ++ pos 7 ∷ zeros 7) 0 [] 0 refl (omega arith)).0 refl 9 (omega arith) (omega arith) refl)) (λ e. absurd (omega (arith, e)))
 '''),
     Wrong('i16 from −32768', 'plan/specs/Types.antt',
           'between (negsuc 32766) (pos 32767)', 'between (negsuc 32767) (pos 32767)', 'RulesSay', '''
-refuted h = absurd ((h .rule-11 (constant i16 (negsuc 32767)) 0 [] (omega arith) .0 refl) .0 .i16 refl .0 .le)
+refuted h = absurd (((h.rule_11 (constant i16 (negsuc 32767)) 0 [] (omega arith)).0 refl).0.i16 refl).0.le
 '''),
     Wrong('i16 to 32766', 'plan/specs/Types.antt',
           'between (negsuc 32766) (pos 32767)', 'between (negsuc 32766) (pos 32766)', 'RangesSay', '''
 refuted h =
-    let most = h .range i16 (pos 32767) (omega arith) .1 (record { bool = λ q. absurd (omega (arith, q)); u8 = λ q. absurd (omega (arith, q)); i16 = λ q. (record { le = tt }, record { le = tt }); i32 = λ q. absurd (omega (arith, q)) }) in
-    absurd (most .1 .le)
+    let most = (h.range i16 (pos 32767) (omega arith)).1 (record { bool = λ q. absurd (omega (arith, q)); u8 = λ q. absurd (omega (arith, q)); i16 = λ q. (record { le = tt }, record { le = tt }); i32 = λ q. absurd (omega (arith, q)) }) in
+    absurd most.1.le
 '''),
     Wrong('rule 9 never holds', 'rules/specs/Rules.antt',
-          'devicesAgree d e f = oneDevice d e && oneDevice (joinDevice d e) f', 'devicesAgree d e f = false',
+          'devices_agree d e f = one_device d e && one_device (join_device d e) f', 'devices_agree d e f = false',
           'PremisesMet', '''
-refuted h = never (ap (λ (o : Outcome (List Derived)). checkAnswer o .number) (h .first .accepts)) (λ e. absurd (omega (arith, e)))
+refuted h = never (ap (λ (o : Outcome (List Derived)). (check_answer o).number) h.first.accepts) (λ e. absurd (omega (arith, e)))
 '''),
     Wrong('an input flag of 7 accepted', 'runner/specs/Inputs.antt',
           'need (leb flag 1) 15 p', 'need (leb flag 1 || eqb flag 7) 15 p', 'RunsExactly', '''
 refuted h =
     let x = lend (negsuc 6) (pos 99) 1 7 in
-    let proper = h .accepted-when division divisionRecords x refl .0 (fieldsOf division divisionRecords (x .values) (x .flags)) refl in
-    ⊎-elim (λ e. absurd (omega (arith, e))) (λ e. absurd (omega (arith, e))) (proper .zero-or-one 1 (omega arith))
+    let proper = (h.accepted_when division division_records x refl).0 (fields_of division division_records x.values x.flags) refl in
+    ⊎_elim (λ e. absurd (omega (arith, e))) (λ e. absurd (omega (arith, e))) (proper.zero_or_one 1 (omega arith))
 '''),
     Wrong('a lookup follows CAST', 'plan/specs/Operations.antt',
           'followed = movements ++ LOAD ∷ []', 'followed = movements ++ LOAD ∷ CAST ∷ []', 'LookupAgrees', '''
 refuted h =
-    let way : LeadsTo casts ends (node 1) (element 0) (node 1) (element 0) = record { way = here; op = 8; is-op = refl; other = ⊎-elim (λ f. absurd (omega (arith, f .1))) (λ f. absurd (omega (arith, f))) } in
-    let found = (h casts ends (node 1) (element 0) refl (omega arith, omega arith)) .place (node 1) (element 0) .1 way in
-    never (ap (λ (r : Reply). r .found) found) (λ e. absurd (omega (arith, e)))
+    let way : LeadsTo casts ends (node 1) (element 0) (node 1) (element 0) = record { way = here; op = 8; is_op = refl; other = ⊎_elim (λ f. absurd (omega (arith, f.1))) (λ f. absurd (omega (arith, f))) } in
+    let found = ((h casts ends (node 1) (element 0) refl (omega arith, omega arith)).place (node 1) (element 0)).1 way in
+    never (ap (λ (r : Reply). r.found) found) (λ e. absurd (omega (arith, e)))
 '''),
     Wrong('node and element swapped in the reply', 'lookup/specs/Following.antt',
-          'node = foundNode o; element = foundElement o', 'node = foundElement o; element = foundNode o', 'LookupAgrees', '''
+          'node = found_node o; element = found_element o', 'node = found_element o; element = found_node o', 'LookupAgrees', '''
 refuted h =
-    let way : LeadsTo casts ends (node 1) (element 0) (node 1) (element 0) = record { way = here; op = 8; is-op = refl; other = ⊎-elim (λ f. absurd (omega (arith, f .1))) (λ f. absurd (omega (arith, f))) } in
-    let found = (h casts ends (node 1) (element 0) refl (omega arith, omega arith)) .place (node 1) (element 0) .1 way in
-    never (ap (λ (r : Reply). r .node) found) (λ e. absurd (omega (arith, e)))
+    let way : LeadsTo casts ends (node 1) (element 0) (node 1) (element 0) = record { way = here; op = 8; is_op = refl; other = ⊎_elim (λ f. absurd (omega (arith, f.1))) (λ f. absurd (omega (arith, f))) } in
+    let found = ((h casts ends (node 1) (element 0) refl (omega arith, omega arith)).place (node 1) (element 0)).1 way in
+    never (ap (λ (r : Reply). r.node) found) (λ e. absurd (omega (arith, e)))
 '''),
     Wrong("a record's words swapped", 'verifier/specs/Check.antt',
-          'pos (d .dtype) ∷ pos (d .device) ∷', 'pos (d .device) ∷ pos (d .dtype) ∷', 'ChecksExactly', '''
+          'pos d.dtype ∷ pos d.device ∷', 'pos d.device ∷ pos d.dtype ∷', 'ChecksExactly', '''
 refuted h =
-    let words = h .writes casts (zeros 16) ends refl .each 0 (omega arith) in
-    never (ap natAbs (words .dtype)) (λ e. absurd (omega (arith, e)))
+    let words = (h.writes casts (zeros 16) ends refl).each 0 (omega arith) in
+    never (ap nat_abs words.dtype) (λ e. absurd (omega (arith, e)))
 '''),
     Wrong("ADD's bounds one too wide", 'bounds/specs/Rules.antt',
-          'addBounds a b = between (a .low +ℤ b .low) (a .high +ℤ b .high)',
-          'addBounds a b = between (a .low +ℤ b .low) (a .high +ℤ b .high +ℤ pos 1)', 'RecordsSay', '''
+          'add_bounds a b = between (a.low +ℤ b.low) (a.high +ℤ b.high)',
+          'add_bounds a b = between (a.low +ℤ b.low) (a.high +ℤ b.high +ℤ pos 1)', 'RecordsSay', '''
 refuted h =
-    let twice = h .bounds (constant i16 (pos 2) ++ binary 9 0 0) 1 (derived i16 0 (pos 2) (pos 2) [] ∷ []) 9 refl (omega arith) (omega arith) in
-    never (ap natAbs (twice .add refl .1)) (λ e. absurd (omega (arith, e)))
+    let twice = h.bounds (constant i16 (pos 2) ++ binary 9 0 0) 1 (derived i16 0 (pos 2) (pos 2) [] ∷ []) 9 refl (omega arith) (omega arith) in
+    never (ap nat_abs (twice.add refl).1) (λ e. absurd (omega (arith, e)))
 '''),
     Wrong('every device 0', 'rules/specs/Rules.antt',
-          'device = resultDevice x (a .device) (b .device) (c .device);', 'device = 0;', 'RecordsSay', '''
+          'device = result_device x a.device b.device c.device;', 'device = 0;', 'RecordsSay', '''
 refuted h =
-    let own = h .device (param 0 i16 (pos 0) (pos 9) []) 0 [] 1 refl (omega arith) (record { le = tt }) (λ j k a b c d e f. inl refl) in
-    never (ap natAbs (own .named (inl refl))) (λ e. absurd (omega (arith, e)))
+    let own = h.device (param 0 i16 (pos 0) (pos 9) []) 0 [] 1 refl (omega arith) (record { le = tt }) (λ j k a b c d e f. inl refl) in
+    never (ap nat_abs (own.named (inl refl))) (λ e. absurd (omega (arith, e)))
 '''),
     Wrong('128 is a number of one byte', 'codec/specs/Numbers.antt', 'cond (ltb byte 128)', 'cond (ltb byte 129)', 'UnpacksExactly', '''
 refuted h =
-    let read = h .number-accepted (128 ∷ 1 ∷ []) 0 (record { value = 128; next = 1 }) .0 refl in
-    alone (read .more) (read .after) (read .last)
+    let read = (h.number_accepted (128 ∷ 1 ∷ []) 0 (record { value = 128; next = 1 })).0 refl in
+    alone read.more read.after read.last
   where
-    alone : (more : ℕ) → 1 ≡ 0 + more + 1 → getD (128 ∷ 1 ∷ []) (0 + more) 0 < 128 → ⊥
+    alone : (more : ℕ) → 1 ≡ 0 + more + 1 → get_or (128 ∷ 1 ∷ []) (0 + more) 0 < 128 → ⊥
     alone zero e l = absurd (omega (arith, l))
     alone (suc k) e l = absurd (omega (arith, e))
 '''),
     Wrong('bytes left over accepted', 'codec/specs/Plans.antt',
-          'need (leb (length s) (u .next)) 22 (u .next)\n', 'need true 22 (u .next)\n', 'UnpacksExactly', '''
+          'need (leb (length s) u.next) 22 u.next\n', 'need true 22 u.next\n', 'UnpacksExactly', '''
 refuted h =
-    let read = h .accepted-when (1 ∷ 0 ∷ 4 ∷ 10 ∷ 0 ∷ []) 17 (record { words = constant i16 (pos 5); next = 4 }) .0 refl in
-    never (read .end) (λ e. absurd (omega (arith, e)))
+    let read = (h.accepted_when (1 ∷ 0 ∷ 4 ∷ 10 ∷ 0 ∷ []) 17 (record { words = constant i16 (pos 5); next = 4 })).0 refl in
+    never read.end (λ e. absurd (omega (arith, e)))
 '''),
     Wrong("a refusal's count is not 0", 'plan/specs/Answers.antt',
-          'place = r .place; count = 0 }', 'place = r .place; count = 1 }', 'RefusalsKeep', '''
-refuted h = never (h .of-check [] [] (record { number = 1; place = 0 }) refl .0 .count) (λ e. absurd (omega (arith, e)))
+          'place = r.place; count = 0 }', 'place = r.place; count = 1 }', 'RefusalsKeep', '''
+refuted h = never (h.of_check [] [] (record { number = 1; place = 0 }) refl).0.count (λ e. absurd (omega (arith, e)))
 '''),
     Wrong('a constant node count of the C call', 'verifier/specs/Check.antt',
-          'codeOf (accepted p) = length (p .records)', 'codeOf (accepted p) = 1', 'FromBytes', '''
+          'code_of (accepted p) = length p.records', 'code_of (accepted p) = 1', 'FromBytes', '''
 refuted h =
     let one : 1 ≤ 256 = omega arith in
     let words : 17 ≤ 34 = omega arith in
     let records : 8 ≤ 16 = omega arith in
-    never (ap (λ (a : Answer). a .count) (h (2 ∷ 0 ∷ 4 ∷ 10 ∷ 0 ∷ 4 ∷ 12 ∷ []) (zeros 34) (zeros 16) one words records .unpacked)) (λ e. absurd (omega (arith, e)))
+    never (ap (λ (a : Answer). a.count) (h (2 ∷ 0 ∷ 4 ∷ 10 ∷ 0 ∷ 4 ∷ 12 ∷ []) (zeros 34) (zeros 16) one words records).unpacked) (λ e. absurd (omega (arith, e)))
 '''),
     Wrong('a constant node count of unpacking', 'codec/specs/Plans.antt',
-          'answerOf (λ (u : Unpacked). length (u .words) / wordsPerNode)', 'answerOf (λ (u : Unpacked). 1)', 'FromBytes', '''
+          'answer_of (λ (u : Unpacked). length u.words / words_per_node)', 'answer_of (λ (u : Unpacked). 1)', 'FromBytes', '''
 refuted h =
     let two : 2 ≤ 256 = omega arith in
     let words : 34 ≤ 34 = omega arith in
     let records : 16 ≤ 16 = omega arith in
-    never (ap (λ (a : Answer). a .count) (h (2 ∷ 0 ∷ 4 ∷ 10 ∷ 0 ∷ 4 ∷ 12 ∷ []) (zeros 34) (zeros 16) two words records .unpacked)) (λ e. absurd (omega (arith, e)))
+    never (ap (λ (a : Answer). a.count) (h (2 ∷ 0 ∷ 4 ∷ 10 ∷ 0 ∷ 4 ∷ 12 ∷ []) (zeros 34) (zeros 16) two words records).unpacked) (λ e. absurd (omega (arith, e)))
 '''),
     Wrong('the writer counts 1', 'packing/specs/Packing.antt',
-          'packAnswer = answerOf (λ (bytes : List ℕ). length bytes)', 'packAnswer = answerOf (λ (bytes : List ℕ). 1)', 'RoundTrips', '''
+          'pack_answer = answer_of (λ (bytes : List ℕ). length bytes)', 'pack_answer = answer_of (λ (bytes : List ℕ). 1)', 'RoundTrips', '''
 refuted h =
     let words : 17 ≤ 17 = omega arith in
-    never (ap (λ (a : Answer). a .number) (h .read-back (constant i16 (pos 5)) (replicate 4 0) (zeros 17) refl words .2)) (λ e. absurd (omega (arith, e)))
+    never (ap (λ (a : Answer). a.number) (h.read_back (constant i16 (pos 5)) (replicate 4 0) (zeros 17) refl words).2) (λ e. absurd (omega (arith, e)))
 '''),
     Wrong('the writer pads numbers', 'packing/specs/Bytes.antt',
           'cond (ltb m 128) (m ∷ [])', 'cond (ltb m 1) (m ∷ [])', 'RoundTrips', '''
 refuted h =
     let words : 17 ≤ 17 = omega arith in
-    never (ap (λ (a : Answer). a .number) (h .read-back (constant i16 (pos 5)) (replicate 9 0) (zeros 17) refl words .2)) (λ e. absurd (omega (arith, e)))
+    never (ap (λ (a : Answer). a.number) (h.read_back (constant i16 (pos 5)) (replicate 9 0) (zeros 17) refl words).2) (λ e. absurd (omega (arith, e)))
 '''),
     Wrong('the writer refuses every plan', 'packing/specs/Packing.antt',
-          'need (lengthRight t) 1 0', 'need (not (lengthRight t)) 1 0', 'RoundTrips', '''
+          'need (length_right t) 1 0', 'need (not (length_right t)) 1 0', 'RoundTrips', '''
 refuted h =
     let room : 4 ≤ 4 = omega arith in
-    never (ap (λ (a : Answer). a .number) (h .written-back four are (zeros 17) (replicate 4 0) refl room .0)) (λ e. absurd (omega (arith, e)))
+    never (ap (λ (a : Answer). a.number) (h.written_back four are (zeros 17) (replicate 4 0) refl room).0) (λ e. absurd (omega (arith, e)))
 '''),
     Wrong('FILL takes the second where the first is known', 'cells/specs/Cells.antt',
-          'fillCell (known z) d = known z', 'fillCell (known z) d = d', 'EveryValue', '''
+          'fill_cell (known z) d = known z', 'fill_cell (known z) d = d', 'EveryValue', '''
 refuted h =
-    let over = h fills pairs (lends 1) 2 (element 0) refl refl (omega arith) (omega arith) .overlaid refl in
-    apart (over .if-known (pos 1) (ap (λ (m : ElementNumber). resultAt fills pairs (lends 1) 0 m) (only (over .first) (over .under-first .inside)))) (λ e. absurd (omega (arith, e)))
+    let over = (h fills pairs (lends 1) 2 (element 0) refl refl (omega arith) (omega arith)).overlaid refl in
+    apart (over.if_known (pos 1) (ap (λ (m : ElementNumber). result_at fills pairs (lends 1) 0 m) (only over.first over.under_first.inside))) (λ e. absurd (omega (arith, e)))
 '''),
-    Wrong('FILL leaves a gap', 'cells/specs/Cells.antt', 'fillCell gap d = d', 'fillCell gap d = gap', 'EveryValue', '''
+    Wrong('FILL leaves a gap', 'cells/specs/Cells.antt', 'fill_cell gap d = d', 'fill_cell gap d = gap', 'EveryValue', '''
 refuted h =
-    let over = h fills pairs (lends 0) 2 (element 0) refl refl (omega arith) (omega arith) .overlaid refl in
-    let first = ap (λ (m : ElementNumber). resultAt fills pairs (lends 0) 0 m) (only (over .first) (over .under-first .inside)) in
-    let second = ap (λ (m : ElementNumber). resultAt fills pairs (lends 0) 1 m) (only (over .second) (over .under-second .inside)) in
-    apart (over .if-gap first ∙ second) (λ e. absurd (omega (arith, e)))
+    let over = (h fills pairs (lends 0) 2 (element 0) refl refl (omega arith) (omega arith)).overlaid refl in
+    let first = ap (λ (m : ElementNumber). result_at fills pairs (lends 0) 0 m) (only over.first over.under_first.inside) in
+    let second = ap (λ (m : ElementNumber). result_at fills pairs (lends 0) 1 m) (only over.second over.under_second.inside) in
+    apart (over.if_gap first ∙ second) (λ e. absurd (omega (arith, e)))
 '''),
-    Wrong('KNOWN of a gap is a gap', 'cells/specs/Cells.antt', 'knownCell gap = known (pos 0)', 'knownCell gap = gap', 'EveryValue', '''
+    Wrong('KNOWN of a gap is a gap', 'cells/specs/Cells.antt', 'known_cell gap = known (pos 0)', 'known_cell gap = gap', 'EveryValue', '''
 refuted h =
-    let told = h (param 0 i16 (pos 0) (pos 9) [] ++ pos 22 ∷ zeros 16) (derived i16 1 (pos 0) (pos 9) [] ∷ derived 0 1 (pos 0) (pos 1) [] ∷ []) (record { values = pos 5 ∷ []; flags = 0 ∷ []; valueBuffer = []; flagBuffer = [] }) 1 (element 0) refl refl (omega arith) (omega arith) .tells refl in
-    apart (told .if-gap refl) (λ e. absurd (omega (arith, e)))
+    let told = (h (param 0 i16 (pos 0) (pos 9) [] ++ pos 22 ∷ zeros 16) (derived i16 1 (pos 0) (pos 9) [] ∷ derived 0 1 (pos 0) (pos 1) [] ∷ []) (record { values = pos 5 ∷ []; flags = 0 ∷ []; value_buffer = []; flag_buffer = [] }) 1 (element 0) refl refl (omega arith) (omega arith)).tells refl in
+    apart (told.if_gap refl) (λ e. absurd (omega (arith, e)))
 '''),
     Wrong("STACK's first two sources swapped", 'cells/specs/Nodes.antt',
-          'cellAt (cond (ltb (e .0) n) (s .a) (cond (ltb (e .0) (n + n)) (s .b) (s .c)))',
-          'cellAt (cond (ltb (e .0) n) (s .b) (cond (ltb (e .0) (n + n)) (s .a) (s .c)))', 'EveryValue', '''
+          'cell_at (cond (ltb e.0 n) s.a (cond (ltb e.0 (n + n)) s.b s.c))',
+          'cell_at (cond (ltb e.0 n) s.b (cond (ltb e.0 (n + n)) s.a s.c))', 'EveryValue', '''
 refuted h =
-    let first = h stacks joined (lends 1) 2 (element 0) refl refl (omega arith) (omega arith) .stacked refl in
-    at (first .turn) (first .of) (first .aligned .0) (first .inside) (first .same)
+    let first = (h stacks joined (lends 1) 2 (element 0) refl refl (omega arith) (omega arith)).stacked refl in
+    at first.turn first.of first.aligned.0 first.inside first.same
   where
-    at : (turn : ℕ) (m : ElementNumber) → 0 ≡ turn → m .0 < elements joined (asCount (word stacks 2 (1 + turn))) → known (pos 2) ≡ resultAt stacks joined (lends 1) (asCount (word stacks 2 (1 + turn))) m → ⊥
-    at zero m e l c = apart (c ∙ ap (λ (m : ElementNumber). resultAt stacks joined (lends 1) 0 m) (only m l)) (λ z. absurd (omega (arith, z)))
+    at : (turn : ℕ) (m : ElementNumber) → 0 ≡ turn → m.0 < elements joined (as_count (word stacks 2 (1 + turn))) → known (pos 2) ≡ result_at stacks joined (lends 1) (as_count (word stacks 2 (1 + turn))) m → ⊥
+    at zero m e l c = apart (c ∙ ap (λ (m : ElementNumber). result_at stacks joined (lends 1) 0 m) (only m l)) (λ z. absurd (omega (arith, z)))
     at (suc turn) m e l c = absurd (omega (arith, e))
 '''),
     Wrong('a STACK of two reads word 3', 'plan/specs/Words.antt',
-          'reads x k = uses (x .op) k && inNumber x k', 'reads x k = uses (x .op) k', 'RulesSay', '''
-refuted h = true≢false (sym (h .rule-4 two 1 [] 23 refl (omega arith) (omega arith) .1 sources))
+          'reads x k = uses x.op k && in_number x k', 'reads x k = uses x.op k', 'RulesSay', '''
+refuted h = true≢false (sym ((h.rule_4 two 1 [] 23 refl (omega arith) (omega arith)).1 sources))
   where
     sources : (k : ℕ) → 1 ≤ k → k ≤ 3 → ReadsSource two 1 23 k → (pos 0 ≤ℤ word two 1 k) × (word two 1 k <ℤ pos 1)
     sources zero a b r = absurd (omega arith)
     sources (suc zero) a b r = (record { le = tt }, record { lt = tt })
     sources (suc (suc zero)) a b r = (record { le = tt }, record { lt = tt })
-    sources (suc (suc (suc zero))) a b r = absurd (never (ap natAbs (r .1 refl refl)) (λ e. absurd (omega (arith, e))))
+    sources (suc (suc (suc zero))) a b r = absurd (never (ap nat_abs (r.1 refl refl)) (λ e. absurd (omega (arith, e))))
     sources (suc (suc (suc (suc k)))) a b r = absurd (omega arith)
 '''),
     Wrong("KNOWN's bounds are [1,1]", 'bounds/specs/Rules.antt',
           '(KNOWN ∷ []) ⇒ between (pos 0) (pos 1)', '(KNOWN ∷ []) ⇒ between (pos 1) (pos 1)', 'RecordsSay', '''
 refuted h =
-    let told = h .bounds (constant i16 (pos 2) ++ pos 22 ∷ zeros 16) 1 (derived i16 0 (pos 2) (pos 2) [] ∷ []) 22 refl (omega arith) (omega arith) in
-    never (ap natAbs (told .tells refl .0)) (λ e. absurd (omega (arith, e)))
+    let told = h.bounds (constant i16 (pos 2) ++ pos 22 ∷ zeros 16) 1 (derived i16 0 (pos 2) (pos 2) [] ∷ []) 22 refl (omega arith) (omega arith) in
+    never (ap nat_abs (told.tells refl).0) (λ e. absurd (omega (arith, e)))
 '''),
     Wrong('a second edition file of old operations accepted', 'codec/specs/Plans.antt',
-          'need (eqb edition (editionOf (u .words))) 26 0', 'need true 26 0', 'UnpacksExactly', '''
+          'need (eqb edition (edition_of u.words)) 26 0', 'need true 26 0', 'UnpacksExactly', '''
 refuted h =
-    let read = h .accepted-when old 17 (record { words = constant i16 (pos 5); next = 6 }) .0 refl in
-    none (read .count) (read .long) (read .some-new (second (begun (read .all) .1)))
+    let read = (h.accepted_when old 17 (record { words = constant i16 (pos 5); next = 6 })).0 refl in
+    none read.count read.long (read.some_new (second (begun read.all).1))
   where
-    begun : {edition room count n p : ℕ} {t : List ℤ} → Begins old edition room count t n p → (place : ℕ) × Opens old edition place
-    begun (first c) = (c .place, c .opens)
-    begun (next-node b l w) = begun b
+    begun : {edition room count : ℕ} {t : List ℤ} {n p : ℕ} → Begins old edition room count t n p → (place : ℕ) × Opens old edition place
+    begun (first c) = (c.place, c.opens)
+    begun (next_node b l w) = begun b
 
     second : {edition place : ℕ} → Opens old edition place → edition ≡ 2
-    second (first-edition f) = absurd (f (omega arith) refl)
-    second (second-edition l a b) = refl
+    second (first_edition f) = absurd (f (omega arith) refl)
+    second (second_edition l a b) = refl
 
     none : (count : ℕ) → 17 ≡ 17 * count → (n : ℕ) × (n < count) × New (constant i16 (pos 5)) n → ⊥
-    none count one (zero, l, w) = w .0 .le
+    none count one (zero, l, w) = w.0.le
     none count one (suc n, l, w) = absurd (omega (arith, one, l))
 '''),
     Wrong('26 for a first edition file', 'plan/specs/Operations.antt',
-          'inFile edition op = isOperation op && (eqb edition 2 || not (isNew op))', 'inFile edition op = isOperation op', 'UnpacksExactly', '''
-refuted h = other (h .first-never-26 (2 ∷ 0 ∷ 4 ∷ 10 ∷ 22 ∷ 0 ∷ []) 34 (record { number = 26; place = 0 }) refl refl)
+          'in_file edition op = is_operation op && (eqb edition 2 || not (is_new op))', 'in_file edition op = is_operation op', 'UnpacksExactly', '''
+refuted h = other (h.first_never_26 (2 ∷ 0 ∷ 4 ∷ 10 ∷ 22 ∷ 0 ∷ []) 34 (record { number = 26; place = 0 }) refl refl)
   where
     other : Opens (2 ∷ 0 ∷ 4 ∷ 10 ∷ 22 ∷ 0 ∷ []) 2 2 → ⊥
-    other (second-edition l a b) = absurd (omega (arith, a))
+    other (second_edition l a b) = absurd (omega (arith, a))
 '''),
     Wrong('the writer knows one edition', 'packing/specs/Packing.antt',
-          'openingBytes t = headerOf (editionOf t) ++ bytesOf (nodeCount t)', 'openingBytes t = bytesOf (nodeCount t)', 'RoundTrips', '''
+          'opening_bytes t = header_of (edition_of t) ++ bytes_of (node_count t)', 'opening_bytes t = bytes_of (node_count t)', 'RoundTrips', '''
 refuted h =
     let words : 34 ≤ 34 = omega arith in
-    never (ap (λ (a : Answer). a .number) (h .read-back (constant i16 (pos 5) ++ pos 22 ∷ zeros 16) (replicate 9 0) (zeros 34) refl words .2)) (λ e. absurd (omega (arith, e)))
+    never (ap (λ (a : Answer). a.number) (h.read_back (constant i16 (pos 5) ++ pos 22 ∷ zeros 16) (replicate 9 0) (zeros 34) refl words).2) (λ e. absurd (omega (arith, e)))
 '''),
 )
 
@@ -348,7 +348,7 @@ NEEDS = {
     'the writer refuses every plan': '''abbrev four : List ℕ
 four = 1 ∷ 0 ∷ 4 ∷ 10 ∷ []
 
-are : (i : ℕ) → i < 4 → getD four i 0 < 256
+are : (i : ℕ) → i < 4 → get_or four i 0 < 256
 are zero l = omega arith
 are (suc zero) l = omega arith
 are (suc (suc zero)) l = omega arith
@@ -363,12 +363,12 @@ abbrev ends : List Derived
 ends = derived i16 1 (pos 0) (pos 9) (2 ∷ []) ∷ derived i16 1 (pos 0) (pos 9) (2 ∷ []) ∷ []
 
 abbrev two : Lent
-two = record { values = pos 1 ∷ pos 2 ∷ []; flags = 1 ∷ 1 ∷ []; valueBuffer = []; flagBuffer = [] }
+two = record { values = pos 1 ∷ pos 2 ∷ []; flags = 1 ∷ 1 ∷ []; value_buffer = []; flag_buffer = [] }
 
 ''',
     'rules 6 and 7 swapped': TWO_RULES
-    + by_number('all', '2 ≤ k → k ≤ 11 →', 'ruleHolds twoRules 0 [] k ≡ true', 2, 11)
-    + by_number('smaller', '2 ≤ k → k < 6 →', 'ruleHolds twoRules 1 before k ≡ true', 2, 5),
+    + by_number('all', '2 ≤ k → k ≤ 11 →', 'rule_holds two_rules 0 [] k ≡ true', 2, 11)
+    + by_number('smaller', '2 ≤ k → k < 6 →', 'rule_holds two_rules 1 before k ≡ true', 2, 5),
     'rule 6 always holds': TWO_RULES,
 }
 CASTS = '''abbrev casts : List ℤ
@@ -380,7 +380,7 @@ ends = derived i16 1 (pos 0) (pos 9) (2 ∷ []) ∷ derived i32 1 (pos 0) (pos 9
 '''
 # Two numbers of one cell each, and the only element that such a node has.
 PAIRS = '''abbrev lends : ℕ → Lent
-lends flag = record { values = pos 1 ∷ pos 2 ∷ []; flags = flag ∷ 1 ∷ []; valueBuffer = []; flagBuffer = [] }
+lends flag = record { values = pos 1 ∷ pos 2 ∷ []; flags = flag ∷ 1 ∷ []; value_buffer = []; flag_buffer = [] }
 
 abbrev inputs : List ℤ
 inputs = param 0 i16 (pos 0) (pos 9) [] ++ param 1 i16 (pos 0) (pos 9) []
@@ -397,8 +397,8 @@ pairs = derived i16 1 (pos 0) (pos 9) [] ∷ derived i16 1 (pos 0) (pos 9) [] �
 abbrev joined : List Derived
 joined = derived i16 1 (pos 0) (pos 9) [] ∷ derived i16 1 (pos 0) (pos 9) [] ∷ derived i16 1 (pos 0) (pos 9) (2 ∷ []) ∷ []
 
-only : (m : ElementNumber) → m .0 < 1 → m ≡ element 0
-only m l = let none : m .0 ≡ 0 = omega arith in ap element none
+only : (m : ElementNumber) → m.0 < 1 → m ≡ element 0
+only m l = let none : m.0 ≡ 0 = omega arith in ap element none
 
 '''
 NEEDS.update(dict.fromkeys(('FILL takes the second where the first is known', 'FILL leaves a gap', "STACK's first two sources swapped"), PAIRS))
@@ -413,54 +413,74 @@ old = 0 ∷ 2 ∷ 1 ∷ 0 ∷ 4 ∷ 10 ∷ []
 NEEDS.update(dict.fromkeys(('a lookup follows CAST', 'node and element swapped in the reply', "a record's words swapped"), CASTS))
 
 
+# The crate of the copy: one, whose modules are the definitions of each crate.
+COPY = 'crates/definitions'
+REFUTED = f'{COPY}/proofs/Refuted.antt'
+
+# What a wrong definition uses that its file does not bring in.
+BRINGS = dict.fromkeys(('bytes left over accepted', 'a second edition file of old operations accepted'),
+                       'use Rattle.std.specs.Prelude.{true}\n')
+
+
 def text_of(path):
     with open(path, encoding='utf-8') as file:
         return file.read()
 
 
 def write(path, text):
+    os.makedirs(os.path.dirname(path), exist_ok=True)
     with open(path, 'w', encoding='utf-8') as file:
         file.write(text)
 
 
+def in_copy(text):
+    """Text with the paths that its modules have in the copy: Rattle.plan.specs.Words is Rattle.definitions.specs.Plan.Words there."""
+    text = re.sub(r'\bRattle\.guarantees\.proofs\b', 'Rattle.definitions.proofs', text)
+    text = re.sub(rf'\bRattle\.(?:{"|".join(CRATES)})\.specs\.declared\b', 'Rattle.definitions.specs.declared', text)
+    return re.sub(rf'\bRattle\.({"|".join(CRATES)})\.specs\b', lambda match: f'Rattle.definitions.specs.{match[1].title()}', text)
+
+
+def place_of(file):
+    """Where a file of crates/ lies in the copy."""
+    crate, _, name = file.split('/')
+    return f'{COPY}/specs/{crate.title()}/{name}' if name != 'Lib.antt' else f'{COPY}/specs/{crate.title()}.antt'
+
+
 def copy_definitions(folder):
     """The definitions alone: specs/, and of the code the types that it declares."""
-    lines = dict(line.split(':', 1) for line in text_of(os.path.join(ROOT, 'crates.txt')).split('\n')
-                 if ':' in line and not line.startswith('#'))
-    write(os.path.join(folder, 'crates.txt'), ''.join(
-        f'{crate}: {" ".join(name for name in lines[crate].split() if name in CRATES)}\n' for crate in CRATES))
+    types, modules = [], []
     for crate in CRATES:
-        here, there = (os.path.join(root, 'crates', crate) for root in (ROOT, folder))
-        os.makedirs(os.path.join(there, 'src'))
-        if os.path.isdir(os.path.join(here, 'specs')):
-            shutil.copytree(os.path.join(here, 'specs'), os.path.join(there, 'specs'))
-        types = re.findall(r'^(?:pub )?(?:struct|enum) \w+(?: \{.*?^\}|[^{;]*;)|^use [^;]*;',
-                           text_of(os.path.join(here, 'src', 'lib.rt')), re.S | re.M)
-        write(os.path.join(there, 'src', 'lib.rt'), '\n'.join(types) + '\n')
-    proofs = os.path.join(folder, 'crates', 'guarantees', 'proofs')
-    os.makedirs(proofs)
-    shutil.copy(os.path.join(ROOT, 'crates', 'guarantees', 'proofs', 'Everything.antt'), proofs)
-    write(os.path.join(proofs, 'Lib.antt'), 'pub mod Everything\npub mod Refuted\n')
+        for path in sorted(glob.glob(f'crates/{crate}/specs/*.antt', root_dir=ROOT)):
+            write(os.path.join(folder, place_of(path[len('crates/'):])), in_copy(text_of(os.path.join(ROOT, path))))
+            modules += [crate] * path.endswith('/Lib.antt')
+        types += re.findall(r'^(?:#\[.*\]\n)*(?:pub )?(?:struct|enum) \w+(?: \{.*?^\}|[^{;]*;)',
+                            text_of(os.path.join(ROOT, 'crates', crate, 'src', 'lib.rt')), re.S | re.M)
+    for path, text in ((f'{COPY}/src/lib.rt', '#![tactic(auto)]\n\n' + '\n\n'.join(types) + '\n'),
+                       (f'{COPY}/specs/Lib.antt', ''.join(f'pub mod {crate.title()}\n' for crate in modules)),
+                       (f'{COPY}/proofs/Lib.antt', 'pub mod Everything\npub mod Refuted\n'),
+                       (f'{COPY}/proofs/Everything.antt', in_copy(text_of(os.path.join(ROOT, EVERYTHING)))),
+                       ('crates.txt', os.path.basename(COPY) + ':\n')):
+        write(os.path.join(folder, path), text)
 
 
 def refutes(folder, wrong):
     """Whether the proof that the statement is false is accepted, and what rt wrote."""
     proof = f'pub refuted : {wrong.statement} → ⊥\nunfolding everything{wrong.proof}'
-    write(os.path.join(folder, REFUTED), HEAD + NEEDS.get(wrong.name, '') + proof)
-    ran = subprocess.run(['rt', 'check', 'guarantees'], cwd=folder, capture_output=True, text=True)
+    write(os.path.join(folder, REFUTED), in_copy(HEAD + NEEDS.get(wrong.name, '') + proof))
+    ran = subprocess.run(['rt', 'check'], cwd=os.path.join(folder, COPY), capture_output=True, text=True)
     return ran.returncode == 0, ran.stdout + ran.stderr
 
 
 def tried(folder, wrong):
     """None where the definition, spoilt, refutes the statement, and as it is does not; else what is wrong."""
-    path = os.path.join(folder, 'crates', wrong.file)
+    path = os.path.join(folder, place_of(wrong.file))
     right = text_of(path)
     if right.count(wrong.right) != 1:
         return f'{wrong.file} has not once {wrong.right!r}'
     good, log = refutes(folder, wrong)
     if good or 'Refuted.antt' not in log:
         return 'with the definition as it is the proof is not refused for what it says:\n' + log[-2000:]
-    write(path, right.replace(wrong.right, wrong.wrong))
+    write(path, BRINGS.get(wrong.name, '') + right.replace(wrong.right, wrong.wrong))
     good, log = refutes(folder, wrong)
     write(path, right)
     return None if good else 'the statement is not refuted:\n' + log[-4000:]
