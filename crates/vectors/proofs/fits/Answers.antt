@@ -1,7 +1,6 @@
 use mathlib.Core.Bool.{false≢true}
 use native.Mathlib.Omega.{arith}
 use borrow.Author.Tests.{leb-true}
-use borrow.Author.Rules.{rules}
 use Rattle.vectors.proofs.fits.Goals as goal
 
 pub returns-then-input-z : goal.returns-then-input-z

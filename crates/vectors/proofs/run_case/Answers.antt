@@ -1,5 +1,4 @@
 use native.Mathlib.Omega.{arith}
-use borrow.Author.Rules.{rules}
 use Rattle.vectors.proofs.run_case.Goals as goal
 
 pub run_parts-requires : goal.run_parts-requires

@@ -1,5 +1,4 @@
 use native.Mathlib.Omega.{arith}
-use borrow.Author.Rules.{rules}
 use Rattle.vectors.proofs.run_parts.Goals as goal
 
 pub runs-requires : goal.runs-requires

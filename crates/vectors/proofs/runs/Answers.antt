@@ -1,5 +1,4 @@
 use native.Mathlib.Omega.{arith}
-use borrow.Author.Rules.{rules}
 use Rattle.vectors.proofs.runs.Goals as goal
 
 pub same_answer-requires : goal.same_answer-requires
