@@ -2,7 +2,7 @@
 use mathlib.Core.Path.{refl}
 use mathlib.Core.List.{List, [], ◌∷◌, ◌++◌}
 use Rattle.guarantees.proofs.Everything.{everything}
-use Rattle.agreement.specs.Cases.{words, nodes, times, flags_from, to_pack, leaves_bytes, answer, Case, ◌gives◌, Agree}
+use Rattle.agreement.specs.Cases.{words, nodes, flags_from, to_pack, leaves_bytes, answer, Case, ◌gives◌, Agree}
 
 abbrev pub packs11 : List Case
 packs11 =

@@ -2,7 +2,7 @@
 use mathlib.Core.Path.{refl}
 use mathlib.Core.List.{List, [], ◌∷◌, ◌++◌}
 use Rattle.guarantees.proofs.Everything.{everything}
-use Rattle.agreement.specs.Cases.{words, nodes, times, fresh_from, flags_from, to_unpack, to_check, to_unpack_check, to_run, to_lookup, to_list, leaves, leaves_both, finds, number, text, answer, Case, ◌gives◌, Agree}
+use Rattle.agreement.specs.Cases.{nodes, times, fresh_from, to_check, to_list, leaves, text, answer, Case, ◌gives◌, Agree}
 
 abbrev pub table09 : List Case
 table09 =

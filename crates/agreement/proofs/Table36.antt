@@ -1,8 +1,8 @@
 -- Written by tests/model/tables.py: change that script or cases.py, never this file.
 use mathlib.Core.Path.{refl}
-use mathlib.Core.List.{List, [], ◌∷◌, ◌++◌}
+use mathlib.Core.List.{List, [], ◌∷◌}
 use Rattle.guarantees.proofs.Everything.{everything}
-use Rattle.agreement.specs.Cases.{words, nodes, times, fresh_from, flags_from, to_unpack, to_check, to_unpack_check, to_run, to_lookup, to_list, leaves, leaves_both, finds, number, text, answer, Case, ◌gives◌, Agree}
+use Rattle.agreement.specs.Cases.{words, nodes, fresh_from, to_check, leaves, answer, Case, ◌gives◌, Agree}
 
 abbrev pub table36 : List Case
 table36 =

@@ -1,5 +1,5 @@
 -- Cases of an independent model, tests/model/model.py: a call with its inputs, and what the model says that it answers and leaves in its buffers.
-use Rattle.std.specs.Prelude.{ℕ, zero, suc, ◌+◌, ◌-◌, ◌/◌, ◌%◌, ◌≡◌, Bool, true, false, cond, List, [], ◌∷◌, ◌++◌, map, ℤ, pos, negsuc, eqb, length, replicate}
+use Rattle.std.specs.Prelude.{ℕ, zero, suc, ◌+◌, ◌-◌, ◌/◌, ◌%◌, ◌≡◌, cond, List, [], ◌∷◌, ◌++◌, map, ℤ, pos, negsuc, eqb, length, replicate}
 use Rattle.plan.specs.declared.Answer.{Answer}
 use Rattle.plan.specs.Words.{node, element}
 use Rattle.plan.specs.Answers.{Outcome}

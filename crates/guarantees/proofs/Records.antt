@@ -1,5 +1,5 @@
 -- The derived record in the paper's words.
-use Prim.Native.Nat.{ℕ, zero, suc, ◌+◌, ◌*◌, ◌-◌, ◌<◌, ◌≤◌, max}
+use Prim.Native.Nat.{ℕ, suc, ◌+◌, ◌*◌, ◌-◌, ◌<◌, ◌≤◌, max}
 use mathlib.Core.Path.{◌≡◌, refl, ap, sym, ◌∙◌}
 use mathlib.Core.Bool.{Bool, true, false, cond}
 use mathlib.Core.Logic.{◌⊎◌, inl, inr, ⊎_elim}
@@ -24,7 +24,7 @@ use Rattle.laws.proofs.Parts.{arithℤ, lt_z_false, le_z_true, le_lt_z, le_le_z}
 use Rattle.plan.specs.declared.Interval.{Interval}
 use Rattle.plan.specs.declared.Node.{Node}
 use Rattle.plan.specs.Operations.{by_operation}
-use Rattle.plan.specs.Types.{between, bool}
+use Rattle.plan.specs.Types.{between}
 use Rattle.plan.specs.Words.{size_of, node_at, list_of}
 use Rattle.plan.proofs.ByOperation.{◌then◌, for_range}
 use Rattle.shapes.specs.Rows.{extents_of}

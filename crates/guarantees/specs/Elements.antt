@@ -1,5 +1,5 @@
 -- Demand 2: "every element of every node". For any accepted plan and any input cells, what each node holds and reads.
-use Rattle.std.specs.Prelude.{ℕ, ◌+◌, ◌%◌, ◌<◌, ◌≤◌, ◌≡◌, true, cond, List, [], ◌∷◌, ℤ, ltb, length, get_or, take}
+use Rattle.std.specs.Prelude.{ℕ, ◌+◌, ◌%◌, ◌<◌, ◌≤◌, ◌≡◌, true, cond, List, ◌∷◌, ℤ, ltb, length, get_or, take}
 use Rattle.laws.specs.Lists.{among}
 use Rattle.plan.specs.declared.ElementNumber.{ElementNumber}
 use Rattle.plan.specs.Operations.{WHERE, REDUCE, FILL, STACK, followed, binaries}

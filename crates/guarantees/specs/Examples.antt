@@ -1,5 +1,5 @@
 -- "Those marked ● are proved together, as a single table under a single statement, about the rules themselves."; where 02 changes one, it is as 02 gives it.
-use Rattle.std.specs.Prelude.{ℕ, ◌≡◌, List, [], ◌∷◌, ◌++◌, map, ℤ, pos, negsuc}
+use Rattle.std.specs.Prelude.{◌≡◌, List, [], ◌∷◌, ◌++◌, map, pos, negsuc}
 use Rattle.plan.specs.Operations.{PERMUTE, FLIP, PAD, ADD, MUL, IDIV, MOD, CMPLT}
 use Rattle.cells.specs.Cells.{known, gap}
 use Rattle.guarantees.specs.Questions.{u8, i16, i32, param, constant, movement, binary, choice, reduce, bounds_of, cells_of, origin_of, bounds, cells, origin, refusal, reply, Example, ◌says◌}

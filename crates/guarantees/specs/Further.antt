@@ -1,5 +1,5 @@
 -- Examples beyond the paper's marked ones. Each, turned, is a wrong definition that the laws alone would let pass.
-use Rattle.std.specs.Prelude.{ℕ, ◌≡◌, List, [], ◌∷◌, ◌++◌, map, ℤ, pos, negsuc}
+use Rattle.std.specs.Prelude.{◌≡◌, List, [], ◌∷◌, ◌++◌, map, pos, negsuc}
 use Rattle.plan.specs.Operations.{PERMUTE, FLIP, RESHAPE, EXPAND, PAD, SHRINK, ADD, MUL, IDIV, MOD, CMPLT, CMPNE, AND, OR, FILL, KNOWN}
 use Rattle.cells.specs.Cells.{known, gap}
 use Rattle.guarantees.specs.Questions.{i16, i32, zeros, param_on, param, constant, movement, binary, choice, reduce, cast, load, stack, bounds_of, room_of, cells_of, cells_in, origin_of, table_of, number_of, text_of, bounds, cells, origin, no_origin, table, number, text, fits, refusal, reply, Example, ◌says◌}

@@ -1,14 +1,14 @@
 -- Plans written by hand, questions about them, and what the definitions reply.
-use Rattle.std.specs.Prelude.{ℕ, zero, suc, ◌-◌, ◌/◌, List, [], ◌∷◌, ◌++◌, map, ℤ, pos, negsuc, length, replicate}
-use Rattle.laws.specs.Lists.{concat, last_or}
+use Rattle.std.specs.Prelude.{ℕ, ◌-◌, List, ◌∷◌, ◌++◌, map, ℤ, pos, length, replicate}
+use Rattle.laws.specs.Lists.{last_or}
 use Rattle.plan.specs.Operations.{CONST, PARAM, CAST, WHERE, REDUCE, LOAD, STACK}
 use Rattle.plan.specs.Words.{node, element}
-use Rattle.plan.specs.Answers.{Refusal, Outcome, accepted, refused}
+use Rattle.plan.specs.Answers.{Outcome, accepted, refused}
 use Rattle.codec.specs.Plans.{Unpacked, unpack}
 use Rattle.rules.specs.Rules.{Derived, no_source}
-use Rattle.verifier.specs.Check.{verdict, check, Checked, unpack_check, code_of}
+use Rattle.verifier.specs.Check.{verdict, check, unpack_check, code_of}
 use Rattle.verifier.specs.Listing.{listing}
-use Rattle.cells.specs.Cells.{Cell, known, gap, Field}
+use Rattle.cells.specs.Cells.{Cell, Field}
 use Rattle.runner.specs.Run.{run, no_field}
 use Rattle.lookup.specs.declared.Found.{Found}
 use Rattle.lookup.specs.declared.Found.TheVariants.{At, Gap}

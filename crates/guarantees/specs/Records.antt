@@ -1,6 +1,6 @@
 -- What is derived of a node, in the paper's words and numbers: its type, device, bounds and extents, from its words and its sources' records. n is the node,
 -- o its operation, `earlier` are the records of the nodes before it.
-use Rattle.std.specs.Prelude.{ℕ, ◌+◌, ◌*◌, ◌-◌, ◌<◌, ◌≤◌, max, ◌≡◌, cond, ◌⊎◌, List, [], ◌∷◌, eqb, ℤ, pos, ◌+ℤ◌, ◌-ℤ◌, ◌*ℤ◌, ◌≤ℤ◌, ◌<ℤ◌, length, get_or}
+use Rattle.std.specs.Prelude.{ℕ, ◌+◌, ◌*◌, ◌<◌, ◌≤◌, max, ◌≡◌, cond, ◌⊎◌, List, [], ◌∷◌, eqb, ℤ, pos, ◌+ℤ◌, ◌-ℤ◌, ◌*ℤ◌, ◌≤ℤ◌, ◌<ℤ◌, length, get_or}
 use Rattle.plan.specs.declared.Interval.{Interval}
 use Rattle.rules.specs.Rules.{Derived}
 use Rattle.verifier.specs.Check.{derive_node}

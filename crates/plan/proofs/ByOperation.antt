@@ -8,7 +8,7 @@ use native.Mathlib.Omega.{arith}
 use native.Mathlib.Nat.{eq-or-lt_of_le}
 use borrow.Author.Tests.{eqb-true, ltb-true, ne_eqb}
 use lib.Dec.{eqb}
-use Rattle.laws.specs.Lists.{all_below, among}
+use Rattle.laws.specs.Lists.{among}
 use Rattle.laws.proofs.Booleans.{or_true, cond_both, all_below_lem}
 use Rattle.plan.specs.declared.Node.{Node}
 use Rattle.plan.specs.Operations.{Entry, ◌⇒◌, by_operation, operations_of, covers_all, operation_count, is_operation, uses, followed, IDIV, MOD, STACK}

@@ -1,5 +1,5 @@
 -- Intervals of whole numbers, and the types' ranges.
-use Rattle.std.specs.Prelude.{ℕ, Bool, true, false, ◌&&◌, List, [], ◌∷◌, ℤ, pos, negsuc, get_or}
+use Rattle.std.specs.Prelude.{ℕ, Bool, ◌&&◌, List, [], ◌∷◌, ℤ, pos, negsuc, get_or}
 use Rattle.std.specs.Int.Signed.{le_z}
 use Rattle.plan.specs.declared.Interval.{Interval}
 

@@ -1,6 +1,6 @@
 -- The words of a node.
-use Rattle.std.specs.Prelude.{ℕ, zero, suc, ◌+◌, ◌*◌, ◌/◌, ◌%◌, Bool, true, false, ◌&&◌, ◌||◌, cond, not, List, [], ◌∷◌, ℤ, pos, negsuc, eqb, leb, length, get_or, take, drop}
-use Rattle.laws.specs.Lists.{tab, sum, all_below}
+use Rattle.std.specs.Prelude.{ℕ, zero, suc, ◌+◌, ◌*◌, ◌/◌, ◌%◌, Bool, ◌&&◌, ◌||◌, cond, not, List, [], ◌∷◌, ℤ, pos, negsuc, eqb, leb, length, get_or, take, drop}
+use Rattle.laws.specs.Lists.{all_below}
 use Rattle.plan.specs.declared.NodeNumber.{NodeNumber}
 use Rattle.plan.specs.declared.ElementNumber.{ElementNumber}
 use Rattle.plan.specs.declared.Row.{Row}

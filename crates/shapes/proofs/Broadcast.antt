@@ -1,17 +1,16 @@
 -- A broadcast operand is read inside its extents.
-use Prim.Native.Nat.{ℕ, zero, suc, ◌+◌, ◌-◌, ◌<◌, ◌≤◌, max}
+use Prim.Native.Nat.{ℕ, ◌+◌, ◌-◌, ◌<◌, ◌≤◌, max}
 use mathlib.Core.Path.{◌≡◌, refl, ap, sym, ◌∙◌}
-use mathlib.Core.Bool.{Bool, true, false, ◌&&◌, ◌||◌, cond}
+use mathlib.Core.Bool.{true, false, ◌&&◌, cond}
 use mathlib.Core.Logic.{◌⊎◌, inl, inr, ⊎_elim}
-use mathlib.Core.List.{List, [], ◌∷◌, ◌++◌}
+use mathlib.Core.List.{List, []}
 use native.Mathlib.Omega.{arith}
-use native.Mathlib.Nat.{zero-add}
 use borrow.Author.Tests.{eqb-true, eqb-false}
 use lib.Dec.{eqb}
-use lib.ListN.{length, get_or, replicate, length-replicate, get_or-append, get_or-replicate}
+use lib.ListN.{length, replicate, length-replicate, get_or-append, get_or-replicate}
 use lib.Seq.{get_or-append-add}
-use Rattle.laws.specs.Lists.{tab, all_below, among}
-use Rattle.laws.specs.Numbering.{count, ravel, coord}
+use Rattle.laws.specs.Lists.{among}
+use Rattle.laws.specs.Numbering.{count, coord}
 use Rattle.laws.proofs.Booleans.{bool_cases, and_true, or_true, all_below_lem}
 use Rattle.laws.proofs.Lists.{get_or_tab}
 use Rattle.laws.proofs.Numbering.{Stands, ravel_stands, ravel_same, coord_lt}

@@ -1,14 +1,14 @@
 -- Every extent of a result is at least 1, and its rank at most 4.
-use Prim.Native.Nat.{ℕ, zero, suc, ◌+◌, ◌-◌, ◌<◌, ◌≤◌, max, min}
-use mathlib.Core.Path.{◌≡◌, refl, ap, sym, ◌∙◌}
-use mathlib.Core.Bool.{Bool, true, false, cond}
+use Prim.Native.Nat.{ℕ, zero, suc, ◌-◌, ◌<◌, ◌≤◌, max, min}
+use mathlib.Core.Path.{◌≡◌, ◌∙◌}
+use mathlib.Core.Bool.{cond}
 use mathlib.Core.List.{List, [], ◌∷◌, ◌++◌, map}
 use native.Mathlib.Omega.{arith}
 use native.Mathlib.Nat.{pos_of_ne-zero, zero-lt-suc}
 use borrow.Author.Tests.{eqb-false}
 use lib.Dec.{eqb}
-use lib.ListN.{length, get_or, take, replicate, length-append, length-replicate, length-map, length-take}
-use Rattle.laws.specs.Lists.{tab, among}
+use lib.ListN.{length, take, replicate, length-map, length-take}
+use Rattle.laws.specs.Lists.{tab}
 use Rattle.laws.specs.Numbering.{count}
 use Rattle.laws.proofs.Booleans.{cond_both}
 use Rattle.laws.proofs.Lists.{length_tab}

@@ -1,5 +1,5 @@
 -- The rows of a node.
-use Rattle.std.specs.Prelude.{ℕ, zero, suc, Bool, true, false, ◌&&◌, cond, List, [], ◌∷◌, leb, ltb, eqb, length, get_or, take}
+use Rattle.std.specs.Prelude.{ℕ, Bool, ◌&&◌, cond, List, [], ◌∷◌, leb, ltb, eqb, length, get_or, take}
 use Rattle.laws.specs.Lists.{all_below, occurrences}
 
 -- "extents of 1..1048576", "B holds 0..1048576"

@@ -1,4 +1,3 @@
-use borrow.Author.Rules.{rules}
 use Rattle.lupetzarin.proofs.lup_lookup.Goals as goal
 
 pub returns : goal.returns

@@ -1,4 +1,3 @@
-use borrow.Author.Rules.{rules}
 use Rattle.laws.proofs.Machine.{read_back_is, fit_at}
 use Rattle.plan.proofs.in_number.Goals as goal
 

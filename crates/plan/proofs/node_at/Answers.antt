@@ -1,5 +1,4 @@
 use mathlib.Core.Path.{ap, ◌∙◌}
-use borrow.Author.Rules.{rules}
 use Rattle.plan.specs.Words.{node_of, node_at}
 use Rattle.plan.proofs.Decoding.{words_part}
 use Rattle.plan.proofs.node_at.Goals as goal

@@ -1,6 +1,5 @@
 use lib.IntN.{pos}
 use lib.ListN.{get_or}
-use borrow.Author.Rules.{rules}
 use Rattle.laws.proofs.Machine.{read_back_is, fit_at}
 use Rattle.plan.specs.Words.{node_of}
 use Rattle.plan.proofs.node_of.Goals as goal

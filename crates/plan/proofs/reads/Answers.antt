@@ -1,5 +1,4 @@
 use mathlib.Core.Path.{refl}
-use borrow.Author.Rules.{rules}
 use Rattle.plan.specs.Words.{reads}
 use Rattle.plan.proofs.Masks.{mask_uses}
 use Rattle.plan.proofs.reads.Goals as goal

@@ -1,5 +1,4 @@
 use mathlib.Core.Path.{ap, ◌∙◌}
-use borrow.Author.Rules.{rules}
 use Rattle.laws.proofs.Machine.{read_back_is, fit_at}
 use Rattle.plan.specs.Words.{size_of}
 use Rattle.plan.proofs.size_at.Goals as goal

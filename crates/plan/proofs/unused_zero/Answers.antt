@@ -1,13 +1,10 @@
-use Prim.Native.Nat.{◌≤◌, ◌-◌}
-use mathlib.Core.Path.{◌≡◌, ◌∙◌, ap}
+use mathlib.Core.Path.{◌∙◌, ap}
 use mathlib.Core.Bool.{cond}
 use borrow.Author.Rules.{rules, sfits_of}
-use lib.Dec.{eqb}
 use lib.IntN.{pos}
 use lib.ListN.{get_or}
-use Rattle.laws.specs.Lists.{all_below}
 use Rattle.laws.proofs.Machine.{read_back_is, fit_at}
-use Rattle.plan.proofs.UnusedWords.{used_or_zero, zero_more, zero_none, zero_done}
+use Rattle.plan.proofs.UnusedWords.{zero_more, zero_none, zero_done}
 use mir.Syntax.{w64}
 use mir.ValLaws.{of_z-to_z, of_z_fits}
 use mir.Facts.{Fits-or}

@@ -1,15 +1,10 @@
 use Prim.Native.Nat.{◌≤◌, ◌-◌}
-use mathlib.Core.Path.{◌≡◌, ◌∙◌, ap}
-use mathlib.Core.Bool.{cond}
-use borrow.Author.Rules.{rules}
+use mathlib.Core.Path.{◌≡◌}
 use lib.Dec.{eqb}
-use lib.IntN.{pos}
 use mir.Syntax.{w64}
 use mir.Val.{of_z}
-use lib.ListN.{get_or}
 use Rattle.laws.specs.Lists.{all_below}
-use Rattle.laws.proofs.Machine.{read_back_is, fit_at}
-use Rattle.plan.proofs.UnusedWords.{used_or_zero, zero_more, zero_none, zero_done}
+use Rattle.plan.proofs.UnusedWords.{used_or_zero}
 use Rattle.plan.proofs.unused_zero.Given as goal
 
 abbrev pub invariant-loop-k : goal.invariant-loop-k

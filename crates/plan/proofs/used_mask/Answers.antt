@@ -1,5 +1,4 @@
 use mathlib.Core.Path.{refl, sym}
-use borrow.Author.Rules.{rules}
 use Rattle.plan.specs.Operations.{mask_of, masks}
 use Rattle.plan.proofs.Masks.{mask_none}
 use Rattle.plan.proofs.used_mask.Goals as goal

@@ -2,7 +2,6 @@ use Prim.Native.Nat.{ℕ}
 use mathlib.Core.Path.{refl}
 use lib.Dec.{leb}
 use Rattle.shapes.specs.Rows.{is_flag_row}
-use borrow.Author.Rules.{rules}
 use Rattle.shapes.proofs.is_flag_row.Goals as goal
 
 pub returns : goal.returns

@@ -2,7 +2,6 @@ use Prim.Native.Nat.{ℕ}
 use mathlib.Core.Path.{ap}
 use lib.Dec.{eqb}
 use Rattle.shapes.proofs.RowTests.{occurs_words}
-use borrow.Author.Rules.{rules}
 use Rattle.shapes.proofs.is_once.Goals as goal
 
 pub returns : goal.returns

@@ -6,7 +6,6 @@ use Rattle.laws.specs.Lists.{occurrences}
 use Rattle.plan.specs.Words.{list_of}
 use Rattle.shapes.specs.Rows.{is_permutation}
 use Rattle.shapes.proofs.RowTests.{no_permutation}
-use borrow.Author.Rules.{rules}
 use Rattle.shapes.proofs.is_permutation.Goals as goal
 
 pub returns-then-rank-gt4 : goal.returns-then-rank-gt4

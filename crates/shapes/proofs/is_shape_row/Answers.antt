@@ -1,5 +1,4 @@
 use Rattle.shapes.specs.Rows.{is_shape_row, is_offset_row}
-use borrow.Author.Rules.{rules}
 use Rattle.shapes.proofs.is_shape_row.Goals as goal
 
 pub returns : goal.returns

@@ -4,7 +4,6 @@ use lib.Dec.{eqb, ltb}
 use lib.ListN.{get_or}
 use Rattle.plan.specs.Words.{list_of}
 use Rattle.shapes.specs.Rows.{row_of}
-use borrow.Author.Rules.{rules}
 use Rattle.shapes.proofs.row_of.Goals as goal
 
 pub returns : goal.returns

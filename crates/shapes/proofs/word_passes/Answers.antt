@@ -1,4 +1,3 @@
-use borrow.Author.Rules.{rules}
 use Rattle.shapes.proofs.word_passes.Goals as goal
 
 pub returns : goal.returns
