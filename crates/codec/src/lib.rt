@@ -71,6 +71,7 @@ fn wide(b: u8) -> usize
 }
 
 // The number at a position; most take one byte.
+#[tactic(auto, using(crate::proofs::Reading::no_byte, crate::proofs::Reading::one_byte))]
 pub fn number_at(s: &[u8], at: usize) -> Number
     ensures { result ≡ number_of (number_at s.now at) }
 {

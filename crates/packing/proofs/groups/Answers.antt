@@ -1,3 +1,4 @@
+use Prim.Native.Nat.{◌≤◌}
 use mathlib.Core.Path.{refl, ◌∙◌}
 use native.Mathlib.Omega.{arith}
 use lib.ListN.{length-set}
@@ -20,7 +21,9 @@ pub bounds-bytes-to-in-loop-left : goal.bounds-bytes-to-in-loop-left
 bounds-bytes-to-in-loop-left c = omega (arith, put_room c.loop-left.invariant.0 c.loop-left.invariant.1, c.loop-left-test.true)
 
 pub loop-left-preserved : goal.loop-left-preserved
-loop-left-preserved c = (put_more c.loop-left.invariant.0 c.loop-left-test.true c.if-rest-lt128.false refl, c.loop-left.invariant.1)
+loop-left-preserved c =
+    let more : 128 ≤ c.loop-left.rest = omega arith in
+    (put_more c.loop-left.invariant.0 c.loop-left-test.true more refl, c.loop-left.invariant.1)
 
 pub shape_of-bytes : goal.shape_of-bytes
 shape_of-bytes c = put_length c.loop-left.invariant.0
