@@ -155,7 +155,7 @@ uint64_t lup_version(void);
  * with the bytes 00 02, which the node count follows, and has operations 0..23, one of 21..23 at least; one of the first edition begins with the node
  * count and has operations 0..20. Refusals, in order: 23, a first byte 0 without a 2 after it (place: 0); 20, 21 (place: the first byte of the count,
  * 0 or 2) and 23 (place: 0) of the node count; 14, table has fewer than 17 words a node; 20, 21 and 24 in byte order; 22; 26 (place: 0).
- * Stack: 35,232 bytes measured on plans of 256 nodes (painted stack, x86-64), some 3,200 more on a first call with lazy binding; 48 KiB is enough. */
+ * Stack: 35,048 bytes measured on plans of 256 nodes (painted stack, x86-64), some 3,200 more on a first call with lazy binding; 48 KiB is enough. */
 lup_answer lup_unpack(const uint8_t *bytes, size_t nbytes, int64_t *table, size_t nwords);
 
 /* Packs a table into bytes, the shortest form of each number; bytes past them stay as they were. count: the bytes, 4..11778. They are of the second
@@ -163,18 +163,18 @@ lup_answer lup_unpack(const uint8_t *bytes, size_t nbytes, int64_t *table, size_
  * the same bytes: a plan has one file. Tables that lup_check refuses are packed too: rules 4 to 12 are not asked.
  * Refusals, in order: 1, the length; 2, 3 and 25, the first node that breaks one of these rules (place: that node) and the first that it breaks; 14,
  * bytes is shorter than what is to be written, so room for LUP_MOST_PACKED_BYTES is always enough.
- * Stack: 12,152 bytes measured in the same way, some 3,200 more on a first call with lazy binding; 24 KiB is enough. */
+ * Stack: 11,992 bytes measured in the same way, some 3,200 more on a first call with lazy binding; 24 KiB is enough. */
 lup_answer lup_pack(const int64_t *table, size_t nwords, uint8_t *bytes, size_t nbytes);
 
 /* Checks a plan and writes what is derived of its nodes, eight words each: type, device, low, high, four extents with zeros past the rank; words
  * past them stay as they were. count: 0. Refusals, in order: 1, the length; 2 to 11, the first node that breaks a rule (place: that node) and
  * its first rule; 12, too many elements together; 14, derived has fewer than 8 words a node.
- * Stack: 36,888 bytes measured on plans of 256 nodes with every operation (painted stack, x86-64); 48 KiB is enough. */
+ * Stack: 36,544 bytes measured on plans of 256 nodes with every operation (painted stack, x86-64); 48 KiB is enough. */
 lup_answer lup_check(const int64_t *table, size_t nwords, int64_t *derived, size_t nderived);
 
 /* Unpacks and checks in one call. The answer is the node count, 1..256, or, refused, 65536 times the number plus the place: a refusal of
  * lup_unpack with room for every plan, or of lup_check, 4 to 12: unpacked words break none of 1 to 3.
- * Stack: 64,536 bytes measured in the same way; 80 KiB is enough. */
+ * Stack: 64,240 bytes measured in the same way; 80 KiB is enough. */
 uint64_t lup_unpack_check(const uint8_t *bytes, size_t nbytes);
 
 /* Runs a plan. values and flags are the input: the elements of all PARAM nodes end to end in node order, flags 1 for a known number and 0 for
@@ -183,14 +183,14 @@ uint64_t lup_unpack_check(const uint8_t *bytes, size_t nbytes);
  * input is not the number of all PARAM elements; 14, a result buffer is shorter than all elements of all nodes; 15 or 16 at the first bad
  * position of the input (place: that position): a flag neither 0 nor 1; a known number outside its PARAM's low and high. Those lie in the PARAM's
  * type, so -32768, which some instruments write for "no reading", is 16 at every i16 PARAM where its flag is 1; with flag 0 it is not looked at.
- * Stack: 59,224 bytes measured on a plan with every kind of node (painted stack, x86-64); 80 KiB is enough. */
+ * Stack: 58,432 bytes measured on a plan with every kind of node (painted stack, x86-64); 80 KiB is enough. */
 lup_answer lup_run(const int64_t *table, size_t nwords, const int64_t *values, size_t nvalues, const uint8_t *flags, size_t nflags,
                    int64_t *out_values, size_t nout_values, uint8_t *out_flags, size_t nout_flags);
 
 /* Follows an element of a node back through PERMUTE, FLIP, RESHAPE, EXPAND, PAD, SHRINK and LOAD to the first other node: the place that it comes
  * from, which holds the same number or gap in every run, or a gap where a PAD put it. A node that is not followed answers itself, so FILL, KNOWN and
  * STACK do. Nodes and elements are counted from 0. Refusals, in order: those of lup_check but its 14; 17, there is no such node or element.
- * Stack: 161,928 bytes measured on 255 nodes followed one after another (painted stack, x86-64), some 570 a node; 192 KiB is enough. */
+ * Stack: 141,432 bytes measured on 255 nodes followed one after another (painted stack, x86-64), some 430 a node; 192 KiB is enough. */
 lup_found lup_lookup(const int64_t *table, size_t nwords, uint64_t node, uint64_t element);
 
 #ifdef __cplusplus
