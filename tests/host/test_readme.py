@@ -114,6 +114,7 @@ def test_commands(tally, page, shell):
     tally.same('what tools/setup is asked for before it builds', asked, named)
     tally.same('twelve strips', len(set(re.findall(r'^\d+ 1 2 (\d+) ', text, re.M))), 12)
     tally.same('make test', shell.type('make -n test')[::2], (0, ''))
+    tally.same('the kit', re.findall(r'`(rattle-kit-\S+ logic \w+)`', page.text), [read('TOOLCHAIN').strip()])
     test_picture(tally, page)
 
 
