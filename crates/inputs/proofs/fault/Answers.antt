@@ -18,7 +18,7 @@ pub returns-then-low-value : goal.returns-then-low-value
 unfolding among
 returns-then-low-value c =
     let a = c.args in
-    let known : a.flag ≡ 1 = omega (arith, c.if-flag-ne1.false) in
+    let known : a.flag ≡ 1 = omega arith in
     let inside = inside_read a.value a.low a.high c.ranges.value c.ranges.low c.ranges.high c.if-low-value.true in
     (λ p. known_inside a.flag a.value a.low a.high p known inside, refl)
 
@@ -26,6 +26,6 @@ pub returns : goal.returns
 unfolding among
 returns c =
     let a = c.args in
-    let known : a.flag ≡ 1 = omega (arith, c.if-flag-ne1.false) in
+    let known : a.flag ≡ 1 = omega arith in
     let outside = inside_read a.value a.low a.high c.ranges.value c.ranges.low c.ranges.high c.if-low-value.false in
     (λ p. known_outside a.flag a.value a.low a.high p known outside, refl)

@@ -80,8 +80,8 @@ scan-found-requires c =
     let known = a.known.now in
     let checked = c.requires.0 in
     let size = c.input_total-size.ensures.0 in
-    let l : length given ≡ length (input_limits t ds) = c.if-given-size.false ∙ size in
-    let m : length known ≡ length (input_limits t ds) = c.if-known-size.false ∙ size in
+    let l : length given ≡ length (input_limits t ds) = omega (arith, size) in
+    let m : length known ≡ length (input_limits t ds) = omega (arith, size) in
     (checked.few, table_long t a.records a.count checked, limited t a.records a.count checked, l, m)
 
 pub returns-then-found-ne0 : goal.returns-then-found-ne0
@@ -95,10 +95,10 @@ returns-then-found-ne0 c =
     let fs = a.flags.now in
     let checked = c.requires.0 in
     let size = c.input_total-size.ensures.0 in
-    let l : length given ≡ length (input_limits t ds) = c.if-given-size.false ∙ size in
-    let m : length known ≡ length (input_limits t ds) = c.if-known-size.false ∙ size in
-    let p : total_of ds ≤ length vs = omega (arith, c.requires.1, c.if-values-total.false) in
-    let q : total_of ds ≤ length fs = omega (arith, c.requires.1, c.if-flags-total.false) in
+    let l : length given ≡ length (input_limits t ds) = omega (arith, size) in
+    let m : length known ≡ length (input_limits t ds) = omega (arith, size) in
+    let p : total_of ds ≤ length vs = omega (arith, c.requires.1) in
+    let q : total_of ds ≤ length fs = omega (arith, c.requires.1) in
     let found = c.scan-found in
     refusal_ends vs fs (bad_input t ds given known (length vs) (length fs) checked.accepts l m p q found.result.number found.result.place found.ensures.0 c.if-found-ne0.true) c.refused-then-found-ne0.ensures
 
@@ -118,10 +118,10 @@ run_nodes-requires c =
     let fs = a.flags.now in
     let checked = c.requires.0 in
     let size = c.input_total-size.ensures.0 in
-    let l : length given ≡ length (input_limits t ds) = c.if-given-size.false ∙ size in
-    let m : length known ≡ length (input_limits t ds) = c.if-known-size.false ∙ size in
-    let p : total_of ds ≤ length vs = omega (arith, c.requires.1, c.if-values-total.false) in
-    let q : total_of ds ≤ length fs = omega (arith, c.requires.1, c.if-flags-total.false) in
+    let l : length given ≡ length (input_limits t ds) = omega (arith, size) in
+    let m : length known ≡ length (input_limits t ds) = omega (arith, size) in
+    let p : total_of ds ≤ length vs = omega (arith, c.requires.1) in
+    let q : total_of ds ≤ length fs = omega (arith, c.requires.1) in
     let found = c.scan-found in
     let placed = c.starts-starts.ensures in
     let fed : Fed t ds given known = record { all_values = l; all_flags = m; passed = good_input found.result.number found.result.place found.ensures.0 c.if-found-ne0.false } in
@@ -137,8 +137,8 @@ output_gaps-gaps-requires c =
     let vs = a.values.now in
     let fs = a.flags.now in
     let checked = c.requires.0 in
-    let p : total_of ds ≤ length vs = omega (arith, c.requires.1, c.if-values-total.false) in
-    let q : total_of ds ≤ length fs = omega (arith, c.requires.1, c.if-flags-total.false) in
+    let p : total_of ds ≤ length vs = omega (arith, c.requires.1) in
+    let q : total_of ds ≤ length fs = omega (arith, c.requires.1) in
     let some = some_node t a.records a.count checked in
     let last : a.count - 1 < a.count = omega arith in
     let begins = c.starts-starts.ensures.1 (a.count - 1) last in
@@ -157,10 +157,10 @@ returns c =
     let fs = a.flags.now in
     let checked = c.requires.0 in
     let size = c.input_total-size.ensures.0 in
-    let l : length given ≡ length (input_limits t ds) = c.if-given-size.false ∙ size in
-    let m : length known ≡ length (input_limits t ds) = c.if-known-size.false ∙ size in
-    let p : total_of ds ≤ length vs = omega (arith, c.requires.1, c.if-values-total.false) in
-    let q : total_of ds ≤ length fs = omega (arith, c.requires.1, c.if-flags-total.false) in
+    let l : length given ≡ length (input_limits t ds) = omega (arith, size) in
+    let m : length known ≡ length (input_limits t ds) = omega (arith, size) in
+    let p : total_of ds ≤ length vs = omega (arith, c.requires.1) in
+    let q : total_of ds ≤ length fs = omega (arith, c.requires.1) in
     let some = some_node t a.records a.count checked in
     let last : a.count - 1 < a.count = omega arith in
     let begins = c.starts-starts.ensures.1 (a.count - 1) last in
