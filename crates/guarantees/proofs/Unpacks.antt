@@ -25,7 +25,7 @@ use Rattle.codec.proofs.Bounds.{Holds, holds_map, holds_then, holds_turns}
 use Rattle.verifier.specs.Check.{verdict, Checked, unpack_check, code_of}
 use Rattle.guarantees.specs.Demand3.{word}
 use Rattle.guarantees.specs.Rules.{Exactly, uses_word}
-use Rattle.guarantees.specs.Unpacks.{grouped, MoreFollow, Number, NumberRefuses, bytes_end, too_long, padded, WrittenAs, Opens, first_edition, second_edition, OperationIn, New, Words, operation, used, unused, Counted, Begins, first, next_node, Due, at_count, at_operation, at_word_lem, UnpackRefuses, bad_opening, bad_number, bad_count, no_room, bad_operation, left_over, none_new_lem, Unpacks, Filled, UnpacksExactly}
+use Rattle.guarantees.specs.Unpacks.{grouped, MoreFollow, Number, NumberRefuses, bytes_end, too_long, padded, WrittenAs, Opens, first_edition, second_edition, OperationIn, New, Words, operation, used, unused, Counted, Begins, first, next_node, Due, at_count, at_operation, at_word, UnpackRefuses, bad_opening, bad_number, bad_count, no_room, bad_operation, left_over, none_new, Unpacks, Filled, UnpacksExactly}
 use Rattle.guarantees.proofs.Acceptance.{acceptance}
 use Rattle.guarantees.proofs.Buffers.{written_at, written_past, written_length}
 use Rattle.guarantees.proofs.Users.{same_users}
@@ -192,7 +192,7 @@ module _ (s : List ℕ) (edition room count : ℕ) where
         let st = stands_itself t in
         let b = w.begins t (stands_front u.words m.words st) in
         let c = r.reads t (rw (zero-add, w.long) at (stands_back u.words m.words st)) in
-        holds_then (IsNumber s m.next) (WordsRead n u.next o (suc k)) Refused (number_at s m.next) _ (due_holds s room (at_word_lem b h c l is-used))
+        holds_then (IsNumber s m.next) (WordsRead n u.next o (suc k)) Refused (number_at s m.next) _ (due_holds s room (at_word b h c l is-used))
         (λ x y. word_more (word_of x.value) r (λ t c z. used c l is-used y (rw z (written_as x.value)))))
         (λ e. word_more (pos 0) r (λ t c z. unused c l (sym (uses_is small l) ∙ e) z))
 
@@ -292,7 +292,7 @@ module _ (s : List ℕ) (room : ℕ) where
         by : {edition at : ℕ} → Opens s edition at → Begins s edition room count u.words count (length s) → ((edition ≡ 2 → SomeNew u.words count) → ⊥)
             → UnpackRefuses s room (record { number = 26; place = 0 })
         by (first_edition h) b bad = absurd (bad (λ q. absurd (omega (arith, q))))
-        by (second_edition l x y) b bad = none_new_lem b (λ n h z. bad (λ _. (n, h, z)))
+        by (second_edition l x y) b bad = none_new b (λ n h z. bad (λ _. (n, h, z)))
 
   plan_holds : Holds PlanRead (UnpackRefuses s room) (unpack s room)
   unfolding unpack
@@ -424,7 +424,7 @@ refuses s room (bad_opening l z h) =
     rw (lt-ltb 0 (length s) l, z, out) refl
 refuses s room (bad_number {p} (at_count opens) x) = rw (edition_is opens, header_is opens, number_refuses s p x) refl
 refuses s room (bad_number {p} (at_operation {edition} {count} {t = t} b h) x) = node_refuses s edition room count t b h (rw (number_refuses s p x) refl)
-refuses s room (bad_number {p = q} (at_word_lem {edition} {count} {k = k} {o = o} {t = t} b h w l u) x) =
+refuses s room (bad_number {p = q} (at_word {edition} {count} {k = k} {o = o} {t = t} b h w l u) x) =
     let f = words_are s edition room count t (begins_opens s edition room b).1 w in
     node_refuses s edition room count t b h
     (f.node ∙ turn_stays (read_word o s) _ (suc k) 16 l (turn_more (read_word o s) _ k f.read ∙ rw (uses_is f.small l, u, number_refuses s q x) refl))
@@ -439,7 +439,7 @@ refuses s room (bad_operation {edition} {count} {o = o} {p = p} {t = t} b h x ba
 refuses s room (left_over {edition} {count} {p} {t} b l) =
     let f = nodes_are s edition room count t b in
     rest s edition room count t f.1 ∙ rw (f.2.read, lt-leb (length s) p l) refl
-refuses s room (none_new_lem {count} {t} b h) =
+refuses s room (none_new {count} {t} b h) =
     let f = nodes_are s 2 room count t b in
     let words = f.2.words in
     let in_table : SomeNew words count → ⊥ = λ w.
@@ -539,7 +539,7 @@ only_second (bad_count o x h) e = absurd (omega (arith, e))
 only_second (no_room o x a b h) e = absurd (omega (arith, e))
 only_second (bad_operation b h x bad) e = absurd (omega (arith, e))
 only_second (left_over b l) e = absurd (omega (arith, e))
-only_second {s} {room} (none_new_lem b h) e = second_of (begins_opens s 2 room b).1 (λ q. absurd (omega (arith, q)))
+only_second {s} {room} (none_new b h) e = second_of (begins_opens s 2 room b).1 (λ q. absurd (omega (arith, q)))
 
 pub unpacks_exactly : UnpacksExactly
 unpacks_exactly =

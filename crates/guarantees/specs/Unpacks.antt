@@ -92,7 +92,7 @@ module _ (s : List ℕ) (room : ℕ) where
   pub data Due : ℕ → Type 0 where
     at_count : {edition p : ℕ} → Opens s edition p → Due p
     at_operation : {edition count n p : ℕ} {t : List ℤ} → Begins s edition room count t n p → n < count → Due p
-    at_word_lem : {edition count n k p q o : ℕ} {t : List ℤ} → Begins s edition room count t n p → n < count → Words s edition t n p o k q → k < 16 → uses_word o (suc k) ≡ true → Due q
+    at_word : {edition count n k p q o : ℕ} {t : List ℤ} → Begins s edition room count t n p → n < count → Words s edition t n p o k q → k < 16 → uses_word o (suc k) ≡ true → Due q
 
   -- "Unpacking: count (20, 21, 23), 14 for the table's room, numbers in byte order, 22 last."; 02 §3: "26 .., after 22"
   pub data UnpackRefuses : Refusal → Type 0 where
@@ -109,7 +109,7 @@ module _ (s : List ℕ) (room : ℕ) where
     -- "22: bytes left over; first of them"
     left_over : {edition count p : ℕ} {t : List ℤ} → Begins s edition room count t count p → p < length s → UnpackRefuses (record { number = 22; place = p })
     -- 02 §3: "26 for a second edition file with no new operation, after 22"
-    none_new_lem : {count : ℕ} {t : List ℤ} → Begins s 2 room count t count (length s) → ((n : ℕ) → n < count → New t n → ⊥) → UnpackRefuses (record { number = 26; place = 0 })
+    none_new : {count : ℕ} {t : List ℤ} → Begins s 2 room count t count (length s) → ((n : ℕ) → n < count → New t n → ⊥) → UnpackRefuses (record { number = 26; place = 0 })
 
   -- all nodes are read, with the last byte, and these are their words
   pub record Unpacks (u : Unpacked) : Type 0 where
