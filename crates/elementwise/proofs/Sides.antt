@@ -14,6 +14,6 @@ module _ (op : ℕ) (x y z : ℤ) where
   unfolding plain_value
   where_other e g n = read_back_is g ∙ rw (e, other_bits x (pos 0) n) refl
 
-  pub of-binary : (op ≡ 18 → ⊥) → binary op x y ≡ plain_value op x y z
+  pub of_binary : (op ≡ 18 → ⊥) → binary op x y ≡ plain_value op x y z
   unfolding plain_value
-  of-binary n = rw (ne_eqb op 18 n) refl
+  of_binary n = rw (ne_eqb op 18 n) refl

@@ -17,20 +17,20 @@ module _ {a b q : ℤ} (fa : SFits w64 a) (fb : SFits w64 b) (fq : SFits w64 q) 
   small : Small q
   small = rw is (floor_small a b sa)
 
-  mul-fits : SFits w64 (b *ℤ q)
-  mul-fits = omega (arith_machine, mul_small b q sb small)
+  mul_fits : SFits w64 (b *ℤ q)
+  mul_fits = omega (arith_machine, mul_small b q sb small)
 
   mul' : SFits w64 (read_back b *ℤ read_back q)
-  mul' = rw (read_back_is fb, read_back_is fq) mul-fits
+  mul' = rw (read_back_is fb, read_back_is fq) mul_fits
 
   mul_is : read_back (read_back b *ℤ read_back q) ≡ b *ℤ q
-  mul_is = rw (read_back_is fb, read_back_is fq) (read_back_is mul-fits)
+  mul_is = rw (read_back_is fb, read_back_is fq) (read_back_is mul_fits)
 
-  sub-fits : SFits w64 (a -ℤ b *ℤ q)
-  sub-fits = omega (arith_machine, mul_small b q sb small, diff_parts a (b *ℤ q))
+  sub_fits : SFits w64 (a -ℤ b *ℤ q)
+  sub_fits = omega (arith_machine, mul_small b q sb small, diff_parts a (b *ℤ q))
 
   sub' : SFits w64 (read_back a -ℤ read_back (read_back b *ℤ read_back q))
-  sub' = rw (read_back_is fa, mul_is) sub-fits
+  sub' = rw (read_back_is fa, mul_is) sub_fits
 
   result : read_back (read_back a -ℤ read_back (read_back b *ℤ read_back q)) ≡ floor_mod a b
   unfolding floor_mod
