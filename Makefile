@@ -37,7 +37,7 @@ RT_PROCESSOR = --cpu x86-64
 # What the prover says goes to a file, and to the terminal where something is not proved.
 $(ARCHIVE): $(SOURCES)
 	@mkdir -p build
-	@echo "proving and compiling the library (from nothing some six minutes; build/library.log)"
+	@echo "proving and compiling the library (from nothing some eight minutes; build/library.log)"
 	@cd crates/lupetzarin && rt lib $(RT_PROCESSOR) >../../build/library.log 2>&1 || { tail -n 40 ../../build/library.log; exit 1; }
 	@cp crates/lupetzarin/out/liblupetzarin.a $@
 
