@@ -5,6 +5,7 @@ usage: tables.py [--check]     --check: exit 1 where the committed files are not
 """
 
 import os
+import re
 import sys
 
 sys.dont_write_bytecode = True
@@ -127,9 +128,9 @@ def result_text(case):
 
 HEAD = '-- Written by tests/model/tables.py: change that script or cases.py, never this file.\n'
 TABLE = HEAD + '''use mathlib.Core.Path.{{refl}}
-use mathlib.Core.List.{{List, [], ◌∷◌, ◌++◌}}
+use mathlib.Core.List.{{{lists}}}
 use Rattle.guarantees.proofs.Everything.{{everything}}
-use Rattle.agreement.specs.Cases.{{words, nodes, times, {names}, answer, Case, ◌gives◌, Agree}}
+use Rattle.agreement.specs.Cases.{{{names}}}
 
 abbrev pub {name} : List Case
 {name} =
@@ -142,13 +143,21 @@ unfolding everything
 '''
 
 
-# The tables of pack stand by themselves, so that no other table changes with them. For each kind of table its name,
-# its calls, and what it cites of Cases beside what all cite.
+# The tables of pack stand by themselves, so that no other table changes with them. For each kind of table its name
+# and its calls.
 PACKS = ('pack',)
 OTHERS = tuple(call for call in CALLS if call not in PACKS)
-KINDS = (('Table', OTHERS, ['fresh_from', 'flags_from', *(CALLS[call] for call in OTHERS), 'leaves', 'leaves_both',
-                            'finds', 'number', 'text']),
-         ('Packs', PACKS, ['flags_from', *(CALLS[call] for call in PACKS), 'leaves_bytes']))
+KINDS = (('Table', OTHERS), ('Packs', PACKS))
+# What a table can cite of the library and of Cases, in the order in which it brings it in.
+LISTS = 'List', '[]', '◌∷◌', '◌++◌'
+NAMES = ('words', 'nodes', 'times', 'fresh_from', 'flags_from', *CALLS.values(), 'leaves', 'leaves_both', 'leaves_bytes',
+         'finds', 'number', 'text', 'answer', 'Case', '◌gives◌', 'Agree')
+
+
+def cited(names, rows):
+    """Those of the names that the rows, or the lines around them that all tables have, cite: rt tidy leaves no other."""
+    words = {'List', 'Case', 'Agree', '∷', '[]', *(word for row in rows for word in re.findall(r'[^\s()]+', row.split('\n')[-1]))}
+    return ', '.join(name for name in names if name.strip('◌') in words)
 
 
 def is_large(case):
@@ -169,12 +178,12 @@ def dealt(cases):
 def files(cases):
     """The texts of all files by name."""
     texts = {}
-    for kind, calls, names in KINDS:
+    for kind, calls in KINDS:
         for number, table in enumerate(dealt([case for case in cases if case.call in calls]), 1):
             rows = [f'-- {case.note}\n    {"∷ " * (k > 0)}{call_text(case)} gives {result_text(case)}'
                     for k, case in enumerate(table)]
             texts[f'{kind}{number:02}.antt'] = TABLE.format(
-                name=f'{kind.lower()}{number:02}', rows='\n    '.join(rows), names=', '.join(names))
+                name=f'{kind.lower()}{number:02}', rows='\n    '.join(rows), lists=cited(LISTS, rows), names=cited(NAMES, rows))
     texts['Lib.antt'] = HEAD + ''.join(f'pub mod {name[:-5]}\n' for name in texts)
     return texts
 
