@@ -417,10 +417,6 @@ NEEDS.update(dict.fromkeys(('a lookup follows CAST', 'node and element swapped i
 COPY = 'crates/definitions'
 REFUTED = f'{COPY}/proofs/Refuted.antt'
 
-# What a wrong definition uses that its file does not bring in.
-BRINGS = dict.fromkeys(('bytes left over accepted', 'a second edition file of old operations accepted'),
-                       'use Rattle.std.specs.Prelude.{true}\n')
-
 
 def text_of(path):
     with open(path, encoding='utf-8') as file:
@@ -471,6 +467,13 @@ def refutes(folder, wrong):
     return ran.returncode == 0, ran.stdout + ran.stderr
 
 
+def spoilt(right, wrong):
+    """The file with the wrong definition, and what that uses and the file does not bring in."""
+    brought = re.findall(r'[^\s{},]+', ' '.join(re.findall(r'^use (.*)', right, re.M)))
+    more = [word for word in ('true', 'false', 'not') if re.search(rf'\b{word}\b', wrong.wrong) and word not in brought]
+    return ''.join(f'use Rattle.std.specs.Prelude.{{{word}}}\n' for word in more) + right.replace(wrong.right, wrong.wrong)
+
+
 def tried(folder, wrong):
     """None where the definition, spoilt, refutes the statement, and as it is does not; else what is wrong."""
     path = os.path.join(folder, place_of(wrong.file))
@@ -480,7 +483,7 @@ def tried(folder, wrong):
     good, log = refutes(folder, wrong)
     if good or 'Refuted.antt' not in log:
         return 'with the definition as it is the proof is not refused for what it says:\n' + log[-2000:]
-    write(path, BRINGS.get(wrong.name, '') + right.replace(wrong.right, wrong.wrong))
+    write(path, spoilt(right, wrong))
     good, log = refutes(folder, wrong)
     write(path, right)
     return None if good else 'the statement is not refuted:\n' + log[-4000:]
