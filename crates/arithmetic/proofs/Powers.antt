@@ -4,9 +4,10 @@ use native.Mathlib.Nat.{div-add-mod}
 use lib.Pow.{shl-shr, shr_le}
 use lib.IntN.{*ℤ_comm}
 use mir.Facts.{to_z_pos}
+use mir.Val.{of_z}
 use Rattle.laws.specs.Integers.{floor_div, floor_mod}
 use Rattle.laws.proofs.Floor.{floor_unique_up, floor_up, mod_up}
-use Rattle.laws.proofs.Machine.{Small, read_back, read_back_is, arith_machine}
+use Rattle.laws.proofs.Machine.{Small, read_back, read_back_is, bits_is, arith_machine}
 use Rattle.laws.proofs.Parts.{arithℤ, add_parts, diff_parts, mul_parts}
 
 -- 2^31 shifted is the power that is left
@@ -91,3 +92,7 @@ module _ {p : ℤ} {k : ℕ} (e : p ≡ pos (2 ^ k)) (h : k < 31) where
 
   pub doubled : read_back (p *ℤ pos 2) ≡ pos (2 ^ (k + 1))
   doubled = read_back_is doubled_fits ∙ rw (e, pow-add 2 k 1) refl
+
+-- the power whose bits are those of y
+pub power_of : {p k : ℕ} {y : ℤ} → p ≡ 2 ^ k → k ≤ 31 → SFits w64 y → p ≡ of_z w64 y → y ≡ pos (2 ^ k)
+power_of {p} {k} {y} e h f b = bits_is f (sym b ∙ e) ∙ to_z_pos w64 (omega (arith, pow_mono {i = k} {j = 31} h))

@@ -56,8 +56,8 @@ none_same t t' zero h = refl
 none_same t t' (suc n) h = none_next t t' n (none_same t t' n (λ i l. h i (omega arith))) (h n (omega arith))
 
 -- a table that begins with words u
-pub get_d_front : (u before : List ℤ) (k : ℕ) → k < length u → length u ≤ length before → get_or (sets before 0 u) k (pos 0) ≡ get_or u k (pos 0)
-get_d_front u before k h l =
+pub get_or_front : (u before : List ℤ) (k : ℕ) → k < length u → length u ≤ length before → get_or (sets before 0 u) k (pos 0) ≡ get_or u k (pos 0)
+get_or_front u before k h l =
     let room : 0 + length u ≤ length before = omega arith in
     rw (sets-eq u before 0 room) (get_or-append u (drop (0 + length u) before) (pos 0) k h)
 

@@ -27,7 +27,7 @@ use Rattle.codec.specs.Steps.{number_of, step_of, plan_of, opening_of, Stands, W
 use Rattle.codec.proofs.Reading.{value_is, broken_is}
 use Rattle.codec.proofs.Storing.{sets_over, appended, SoFar, begun, next_is, stop_is, stopped, all_read}
 use Rattle.codec.proofs.Bounds.{words_long, nodes_long}
-use Rattle.codec.proofs.Editions.{none_same, get_d_front}
+use Rattle.codec.proofs.Editions.{none_same, get_or_front}
 
 -- ---- what a step of each loop adds
 
@@ -100,7 +100,7 @@ own_edition : (count own : ℕ) (u before after : List ℤ) → after ≡ sets b
 unfolding edition_of node_count
 own_edition count own u before after stands long fits is =
     let nodes : length u / 17 ≡ count = omega arith in
-    let same : none_new after count ≡ none_new u count = rw stands (none_same (sets before 0 u) u count (λ i h. get_d_front u before (17 * i) (omega arith) (omega arith))) in
+    let same : none_new after count ≡ none_new u count = rw stands (none_same (sets before 0 u) u count (λ i h. get_or_front u before (17 * i) (omega arith) (omega arith))) in
     rw nodes (sym (is ∙ rw same refl))
 
 module _ (edition : ℕ) (s : List ℕ) (at count : ℕ) {r : Step} {before after : List ℤ} (w : Wrote (nodes_at edition count s at) r before 0 after) where

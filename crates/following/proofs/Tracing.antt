@@ -11,7 +11,7 @@ use lib.ListN.{length, get_or, take, drop, replicate, length-append, length-map,
 use lib.Seq.{take_all}
 use Rattle.laws.specs.Lists.{tab, among, concat}
 use Rattle.laws.specs.Numbering.{count}
-use Rattle.laws.proofs.Lists.{get_d_map, concat_at}
+use Rattle.laws.proofs.Lists.{get_or_map, concat_at}
 use Rattle.plan.specs.declared.Answer.{Answer}
 use Rattle.plan.specs.declared.Node.{Node}
 use Rattle.plan.specs.declared.NodeNumber.{NodeNumber}
@@ -118,7 +118,7 @@ module _ (t : List ℤ) (ds : List Derived) (v : verdict t ≡ accepted ds) wher
     part_long : (k : ℕ) → k < length (map derived_words ds) → length (get_or (map derived_words ds) k []) ≡ 8
     part_long k h =
         let l : k < length ds = rw (length-map ds derived_words) at h in
-        rw (get_d_map derived_words ds k [] no_source l) (record_long (get_or ds k no_source) (proper k l).ranked)
+        rw (get_or_map derived_words ds k [] no_source l) (record_long (get_or ds k no_source) (proper k l).ranked)
 
     all_long : length (concat (map derived_words ds)) ≡ 8 * length ds
     all_long =
@@ -132,7 +132,7 @@ module _ (t : List ℤ) (ds : List Derived) (v : verdict t ≡ accepted ds) wher
         words : (n k : ℕ) → n < length ds → k < 8 → get_or (concat (map derived_words ds) ++ drop (length (concat (map derived_words ds))) before) (8 * n + k) (pos 0) ≡ get_or (derived_words (get_or ds n no_source)) k (pos 0)
         words n k h l =
             let m = length-map ds derived_words in
-            let this : get_or parts n [] ≡ derived_words (get_or ds n no_source) = get_d_map derived_words ds n [] no_source h in
+            let this : get_or parts n [] ≡ derived_words (get_or ds n no_source) = get_or_map derived_words ds n [] no_source h in
             let at = concat_at parts n k (pos 0) (rw (part_long n (omega (arith, m))) l) in
             get_or-append (concat parts) (drop (length (concat parts)) before) (pos 0) (8 * n + k) (omega (arith, all_long))
             ∙ rw (words_before parts part_long n (omega (arith, m)), this) at at

@@ -9,7 +9,7 @@ use lib.Dec.{leb}
 use lib.ListN.{length, get_or, take, replicate, length-append, length-map, length-replicate, get_or-replicate, get_or-append}
 use lib.Seq.{get_or-append-add}
 use Rattle.laws.specs.Lists.{concat}
-use Rattle.laws.proofs.Lists.{concat_at, get_d_map}
+use Rattle.laws.proofs.Lists.{concat_at, get_or_map}
 use Rattle.laws.proofs.Booleans.{bool_cases}
 use Rattle.plan.specs.Words.{node_count}
 use Rattle.plan.specs.Answers.{Refusal, Outcome, accepted, refused, refuse, written}
@@ -35,7 +35,7 @@ module _ (d : Derived) (ranked : length d.extents ≤ 4) where
   extent_word : (k : ℕ) → k < length d.extents → get_or (derived_words d) (4 + k) (pos 0) ≡ pos (get_or d.extents k 1)
   unfolding derived_words
   extent_word k h = rw (four_more k)
-      (get_or-append (map pos d.extents) (replicate (4 - length d.extents) (pos 0)) (pos 0) k (rw (length-map d.extents pos) h) ∙ get_d_map pos d.extents k (pos 0) 1 h)
+      (get_or-append (map pos d.extents) (replicate (4 - length d.extents) (pos 0)) (pos 0) k (rw (length-map d.extents pos) h) ∙ get_or_map pos d.extents k (pos 0) 1 h)
 
   zero_word : (k : ℕ) → length d.extents ≤ k → k < 4 → get_or (derived_words d) (4 + k) (pos 0) ≡ pos 0
   unfolding derived_words
@@ -65,7 +65,7 @@ module _ (ds : List Derived) (r : Ranked ds) (before : List ℤ) (n : ℕ) (h : 
   -- word k of record n
   at : (k : ℕ) → k < 8 → get_or (concat (map derived_words ds)) (8 * n + k) (pos 0) ≡ get_or (derived_words (get_or ds n no_source)) k (pos 0)
   at k l =
-      let here : get_or (map derived_words ds) n [] ≡ derived_words (get_or ds n no_source) = get_d_map derived_words ds n [] no_source h in
+      let here : get_or (map derived_words ds) n [] ≡ derived_words (get_or ds n no_source) = get_or_map derived_words ds n [] no_source h in
       rw (← (front_long ds r n (omega arith))) (concat_at (map derived_words ds) n k (pos 0) (rw here (omega (arith, eight (get_or ds n no_source) (r n h)))) ∙ rw here refl)
 
   -- as it stands in the buffer

@@ -14,7 +14,7 @@ use Rattle.laws.specs.Lists.{tab, among}
 use Rattle.laws.specs.Numbering.{count}
 use Rattle.laws.specs.Integers.{same_z, min_z, max_z, min4, max4, floor_div}
 use Rattle.laws.proofs.Booleans.{bool_cases, and_true}
-use Rattle.laws.proofs.Lists.{get_or_tab, get_d_map, tab_same}
+use Rattle.laws.proofs.Lists.{get_or_tab, get_or_map, tab_same}
 use native.Mathlib.Nat.{add-zero, zero-add, add_assoc}
 use lib.Seq.{get_or-take, length-take-le}
 use Rattle.laws.proofs.Extremes.{min_z_of, max_z_of, min_z_le_left, min_z_le_right, le_max_z_left, le_max_z_right, min4_below, max4_above}
@@ -156,7 +156,7 @@ permuted_at : (s row : List ℕ) → length row ≡ 4 → length s ≤ 4 → (k 
 unfolding permuted
 permuted_at s row long h k m l w =
     let there : k < length (take (length s) row) = rw (length-take-le (length s) row (omega (arith, long))) l in
-    get_d_map (λ (a : ℕ). extent s a) (take (length s) row) k 1 0 there ∙ ap (λ (a : ℕ). extent s a) (get_or-take (length s) row k 0 l ∙ w)
+    get_or_map (λ (a : ℕ). extent s a) (take (length s) row) k 1 0 there ∙ ap (λ (a : ℕ). extent s a) (get_or-take (length s) row k 0 l ∙ w)
 
 reduced_at : (s flags : List ℕ) (k : ℕ) → k < length s → (word_of flags k ≡ 1 → get_or (reduced s flags) k 1 ≡ 1) × ((word_of flags k ≡ 1 → ⊥) → get_or (reduced s flags) k 1 ≡ get_or s k 1)
 unfolding reduced

@@ -21,7 +21,7 @@ use Rattle.laws.proofs.Extremes.{min_z_of, max_z_of, min_z_le_left, min_z_le_rig
 use Rattle.laws.proofs.Floor.{floor_up, floor_down}
 use Rattle.laws.proofs.Order.{same_is, is_same}
 use Rattle.laws.proofs.Parts.{arithℤ, add_parts, lt_z_false, le_lt_z}
-use Rattle.laws.proofs.Lists.{get_or_tab, get_d_map}
+use Rattle.laws.proofs.Lists.{get_or_tab, get_or_map}
 use Rattle.plan.specs.declared.Node.{Node}
 use Rattle.plan.specs.declared.NodeNumber.{NodeNumber}
 use Rattle.plan.specs.declared.ElementNumber.{ElementNumber}
@@ -554,7 +554,7 @@ module _ (t : List ℤ) (ds : List Derived) (x : Lent) (v : verdict t ≡ accept
         let field = the_field 1 (node_at t n).source1 u s in
         let cs = map (cell_at (field_at t ds x (node_at t n).source1.0)) os in
         let many : length cs ≡ length os = length-map os (cell_at (field_at t ds x (node_at t n).source1.0)) in
-        let at : (i : ℕ) → i < length os → get_or cs i gap ≡ source_cell t ds x n e 1 (get_or os i (element 0)) = λ i g. get_d_map (cell_at (field_at t ds x (node_at t n).source1.0)) os i gap (element 0) g ∙ rw (first_node t n) refl in
+        let at : (i : ℕ) → i < length os → get_or cs i gap ≡ source_cell t ds x n e 1 (get_or os i (element 0)) = λ i g. get_or_map (cell_at (field_at t ds x (node_at t n).source1.0)) os i gap (element 0) g ∙ rw (first_node t n) refl in
         let row : eval_cell (node_at t n) r operands e ≡ reduce_cells (reduction (node_at t n).number) (map (cell_at operands.a) (gathered operands.a.extents flags e)) = rw p refl in
         let cell : result_at t ds x n e ≡ reduce_cells (reduction (node_at t n).number) cs = here_is ∙ row ∙ rw (field, the_extents 1 (node_at t n).source1 u s) refl in
         record {

@@ -1,6 +1,6 @@
 -- Demand 2: "following movement nodes back from an element finds the same one". 01: "A lookup takes a plan, a node and an element, and follows
 -- nodes 2–7 and 20 back, the source always being an earlier node, to the first other node: its answer is either a place (node with element)
--- or a gap." Stated of `replyOf`, the five numbers that the call answers.
+-- or a gap." Stated of `reply_of`, the five numbers that the call answers.
 use Rattle.std.specs.Prelude.{ℕ, ◌<◌, ◌≤◌, ◌≡◌, ◌⊎◌, List, ℤ, pos, length, get_or}
 use Rattle.plan.specs.declared.NodeNumber.{NodeNumber}
 use Rattle.plan.specs.declared.ElementNumber.{ElementNumber}

@@ -5,7 +5,7 @@ use lib.ListN.{length-map}
 use Rattle.laws.specs.Lists.{sum}
 use Rattle.laws.specs.Numbering.{count}
 use Rattle.laws.proofs.Booleans.{bool_cases, cond_both}
-use Rattle.laws.proofs.Lists.{get_d_map, sum_append}
+use Rattle.laws.proofs.Lists.{get_or_map, sum_append}
 use Rattle.plan.specs.declared.Interval.{Interval}
 use Rattle.plan.specs.declared.Node.{Node}
 use Rattle.plan.specs.Operations.{PARAM}
@@ -33,7 +33,7 @@ module _ (records : List Record) (n : ℕ) (long : length records ≡ 256) (few 
   -- the size of record i, whatever stands past the end
   pub node_size : (d : Record) (i : ℕ) → i < n → count_of (get_or (nodes_of records n) i no_source) ≡ count (shown (get_or records i d).extents)
   node_size d i l =
-      let view : get_or (nodes_of records n) i no_source ≡ view_of (get_or records i d) = get_d_map view_of (take n records) i no_source d (omega (arith, taken)) ∙ ap view_of (get_or-take n records i d l) in
+      let view : get_or (nodes_of records n) i no_source ≡ view_of (get_or records i d) = get_or_map view_of (take n records) i no_source d (omega (arith, taken)) ∙ ap view_of (get_or-take n records i d l) in
       ap count_of view
 
   -- at most the limit

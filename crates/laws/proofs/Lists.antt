@@ -40,10 +40,10 @@ tab_map h zero f = refl
 tab_map h (suc n) f = rw (tab_map h n (λ k. f (suc k)))
 
 -- an element that is there, whatever stands past the end
-pub get_d_map : {A B : Type 0} (f : A → B) (xs : List A) (k : ℕ) (d : B) (d' : A) → k < length xs → get_or (map f xs) k d ≡ f (get_or xs k d')
-get_d_map f [] k d d' h = absurd (not-suc-le-zero h)
-get_d_map f (x ∷ xs) zero d d' h = refl
-get_d_map f (x ∷ xs) (suc k) d d' h = get_d_map f xs k d d' (le_of_suc-le-suc h)
+pub get_or_map : {A B : Type 0} (f : A → B) (xs : List A) (k : ℕ) (d : B) (d' : A) → k < length xs → get_or (map f xs) k d ≡ f (get_or xs k d')
+get_or_map f [] k d d' h = absurd (not-suc-le-zero h)
+get_or_map f (x ∷ xs) zero d d' h = refl
+get_or_map f (x ∷ xs) (suc k) d d' h = get_or_map f xs k d d' (le_of_suc-le-suc h)
 
 -- its parts, and one more
 pub take_tab : {A : Type 0} (i n : ℕ) (f : ℕ → A) → i ≤ n → take i (tab n f) ≡ tab i f

@@ -72,7 +72,7 @@ same_bits {x} {y} f g e = rw (bits_eq f g e) (is_same y)
 pub other_bits : (x y : ℤ) → (of_z w64 x ≡ of_z w64 y → ⊥) → same_z x y ≡ false
 other_bits x y n = bool_cases (same_z x y) (λ e. let h : x ≡ y = same_is {a = x} {b = y} e in absurd (n (ap (of_z w64) h))) (λ e. e)
 
--- a number fits by the bound that a call's `.ok`, a read's `.given` or a field's `.struct_told .given` has, or by its absolute value
+-- a number fits by the bound that is known of what is read, or by its absolute value
 pub fit_at : (z : ℤ) → mag z < 9223372036854775808 → SFits w64 z
 fit_at z p = record { sfits = p }
 

@@ -8,7 +8,7 @@ use lib.IntN.{ℤ}
 use lib.ListN.{length, get_or, take, length-map}
 use lib.Seq.{get_or-take, length-take-le}
 use Rattle.laws.specs.Lists.{tab, concat}
-use Rattle.laws.proofs.Lists.{tab_snoc, concat_append, get_d_map}
+use Rattle.laws.proofs.Lists.{tab_snoc, concat_append, get_or_map}
 use Rattle.laws.proofs.Machine.{read_back}
 use Rattle.plan.specs.declared.Interval.{Interval}
 use Rattle.plan.specs.Words.{node_at}
@@ -61,7 +61,7 @@ module _ (t : List ℤ) (ds : List Derived) where
 module _ (rs : List Record) (count : ℕ) (few : count ≤ length rs) where
   pub record_at : (i : ℕ) (d : Record) → i < count → view_of (get_or rs i d) ≡ get_or (map view_of (take count rs)) i no_source
   record_at i d h =
-      sym (get_d_map view_of (take count rs) i no_source d (omega (arith, length-take-le count rs few)) ∙ ap view_of (get_or-take count rs i d h))
+      sym (get_or_map view_of (take count rs) i no_source d (omega (arith, length-take-le count rs few)) ∙ ap view_of (get_or-take count rs i d h))
 
   pub as_many : length (map view_of (take count rs)) ≡ count
   as_many = length-map (take count rs) view_of ∙ length-take-le count rs few

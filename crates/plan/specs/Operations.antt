@@ -169,7 +169,7 @@ pub data Entry (A : Type 0) : Type 0 where
   ◌⇒◌ : List ℕ → A → Entry A
 
 infix 68 ◌⇒◌
--- The row of operation op. Every table has a row for each of 0..23 (`coversAll`, shown in its crate's proofs/Tables.antt);
+-- The row of operation op. Every table has a row for each of 0..23 (`covers_all`, shown in its crate's proofs/Tables.antt);
 -- the last argument stands for the numbers that are no operation, which rule 2 refuses.
 abbrev pub by_operation : {A : Type 0} → ℕ → List (Entry A) → A → A
 by_operation op [] other = other

@@ -10,7 +10,7 @@ use lib.ListN.{length, get_or, take}
 use lib.Seq.{get_or-take, length-take-le}
 use Rattle.laws.specs.Numbering.{count}
 use Rattle.laws.proofs.Booleans.{bool_cases}
-use Rattle.laws.proofs.Lists.{get_d_map}
+use Rattle.laws.proofs.Lists.{get_or_map}
 use Rattle.plan.specs.declared.Node.{Node}
 use Rattle.plan.specs.declared.NodeNumber.{NodeNumber}
 use Rattle.plan.specs.Words.{node_at, if_param, reads}
@@ -47,7 +47,7 @@ module _ (records : List Record) (n i : ℕ) (long : length records ≡ 256) (fe
   view_at : (d : Record) (j : ℕ) → j < n → get_or (nodes_of records n) j no_source ≡ view_of (get_or records j d)
   view_at d j h =
       let here : j < length (take n records) = omega (arith, length-take-le n records (omega arith)) in
-      get_d_map view_of (take n records) j no_source d here ∙ ap view_of (get_or-take n records j d h)
+      get_or_map view_of (take n records) j no_source d here ∙ ap view_of (get_or-take n records j d h)
 
   -- the extents of node i
   own_extents : (d : Record) → shown (get_or records i d).extents ≡ (get_or (nodes_of records n) i no_source).extents

@@ -12,7 +12,7 @@ use lib.Seq.{get_or-take, length-take-le}
 use Rattle.laws.specs.Lists.{occurrences, position}
 use Rattle.laws.specs.Numbering.{count, ravel, coord}
 use Rattle.laws.proofs.Booleans.{bool_cases, and_true, or_true, all_below_lem}
-use Rattle.laws.proofs.Lists.{get_or_tab, length_tab, get_d_map, position_lt, position_at, position_of}
+use Rattle.laws.proofs.Lists.{get_or_tab, length_tab, get_or_map, position_lt, position_at, position_of}
 use Rattle.laws.proofs.Numbering.{Stands, ravel_stands, ravel_lt, coord_lt, coord_ravel}
 use Rattle.plan.specs.declared.Row.{Row}
 use Rattle.plan.specs.declared.ElementNumber.{ElementNumber}
@@ -50,7 +50,7 @@ module _ (s row : List ℕ) (p : is_permutation (length s) row ≡ true) where
   axis_extent : (m : ℕ) → m < length s → extent (permuted s row) (position m (take (length s) row)) ≡ extent s m
   unfolding permuted
   axis_extent m h =
-      get_d_map (λ (a : ℕ). extent s a) axes (position m axes) 1 0 (axis_lt m h) ∙ ap (λ (a : ℕ). extent s a) (position_at m axes 0 (omega (arith, once m h)))
+      get_or_map (λ (a : ℕ). extent s a) axes (position m axes) 1 0 (axis_lt m h) ∙ ap (λ (a : ℕ). extent s a) (position_at m axes 0 (omega (arith, once m h)))
 
   permuted_rank : length (permuted s row) ≡ length (take (length s) row)
   unfolding permuted

@@ -1,6 +1,6 @@
 -- Which element of its source an element of a node is, axis by axis. s is the source's extents and r the result's; o is an element of the
--- source and e one of the result. The maps of Sources.antt are these and no others: `source-from`, `from-source`, `source-none`, `none-source`,
--- `broadcast-from`, `broadcast-once` and `gathers` of proofs/Coordinates.antt, `stacked-from` of proofs/Stacking.antt.
+-- source and e one of the result. The maps of Sources.antt are these and no others: `source_from`, `from_source_lem`, `source_none`, `none_source`,
+-- `broadcast_from`, `broadcast_once` and `gathers` of proofs/Coordinates.antt, `stacked_from` of proofs/Stacking.antt.
 use Rattle.std.specs.Prelude.{ℕ, suc, ◌+◌, ◌-◌, ◌<◌, ◌≤◌, ◌≡◌, ◌⊎◌, List, length, get_or}
 use Rattle.laws.specs.Numbering.{count, coord}
 use Rattle.plan.specs.declared.ElementNumber.{ElementNumber}

@@ -10,7 +10,7 @@ use Rattle.plan.specs.Words.{list_of, element}
 use Rattle.shapes.specs.Rules.{extent, word_of, flagged, gathered_extents, reduced}
 
 -- "PERMUTE: result axis k is source axis A_k": along source axis m the coordinate is that of the result axis k with A_k = m.
--- So coordinate A_k of the source element is coordinate k of the result's (`permute-coordinate` of proofs/Sources.antt).
+-- So coordinate A_k of the source element is coordinate k of the result's (`permute_coordinate` of proofs/Sources.antt).
 unfoldable pub permute_source : List ℕ → List ℕ → List ℕ → ℕ → ℕ
 permute_source s r row e = ravel s (λ (m : ℕ). coord r e (position m (take (length s) row)))
 

@@ -158,7 +158,7 @@ fn is_once(k: usize, rank: usize, row: Row) -> bool
     n0 + (n1 + (n2 + n3)) == 1
 }
 
-// The axes 0..rank_1 once each, then zeros.
+// The axes 0..rank-1 once each, then zeros.
 pub fn is_permutation(rank: usize, row: Row) -> bool
     ensures { result ≡ is_permutation rank (list_of row) }
 {

@@ -13,7 +13,7 @@ use lib.Seq.{take-suc-set, get_or-take, length-take-le}
 use Rattle.laws.specs.Lists.{sum}
 use Rattle.laws.specs.Numbering.{count}
 use Rattle.laws.proofs.Booleans.{bool_cases, and_true}
-use Rattle.laws.proofs.Lists.{get_d_map, take_whole, sum_append}
+use Rattle.laws.proofs.Lists.{get_or_map, take_whole, sum_append}
 use Rattle.plan.specs.declared.Node.{Node}
 use Rattle.plan.specs.declared.NodeNumber.{NodeNumber}
 use Rattle.plan.specs.Operations.{masks}
@@ -72,7 +72,7 @@ module _ (t : List ℤ) (i : ℕ) (ds : List Record) (params total : ℕ) (so : 
       used : s.0 < i → view_of (get_or ds place d) ≡ get_or (map view_of (take i ds)) s.0 no_source
       used l =
           let here : s.0 < length (take i ds) = rw (length-take-le i ds (omega (arith, so.size))) l in
-          rw (at l, get_d_map view_of (take i ds) s.0 no_source d here, get_or-take i ds s.0 d l) refl
+          rw (at l, get_or_map view_of (take i ds) s.0 no_source d here, get_or-take i ds s.0 d l) refl
 
   -- its count of elements is at most the limit
   pub source_few : (x : Node) (k : ℕ) (s : NodeNumber) → count (source_of (map view_of (take i ds)) x k s).extents ≤ element_limit

@@ -11,7 +11,7 @@ use lib.ListN.{length, get_or, take}
 use Rattle.laws.specs.Lists.{occurrences, position}
 use Rattle.laws.specs.Numbering.{count, ravel, coord}
 use Rattle.laws.proofs.Booleans.{and_true, all_below_lem}
-use Rattle.laws.proofs.Lists.{get_d_map, position_lt, position_at}
+use Rattle.laws.proofs.Lists.{get_or_map, position_lt, position_at}
 use Rattle.laws.proofs.Numbering.{ravel_lt, ravel_same}
 use Rattle.plan.specs.declared.Row.{Row}
 use Rattle.plan.specs.Words.{list_of}
@@ -80,7 +80,7 @@ module _ (s : List ℕ) (S R A row : Row) (base : ℕ) (p : is_permutation (leng
       let axis = take (length s) (list_of row) in
       let there : 0 < occurrences m axis = omega (arith, once m h) in
       rw rank at (extent_rest (permuted s (list_of row)) R over (position m axis))
-      ∙ get_d_map (λ (a : ℕ). extent s a) axis (position m axis) 1 0 (position_lt m axis there)
+      ∙ get_or_map (λ (a : ℕ). extent s a) axis (position m axis) 1 0 (position_lt m axis there)
       ∙ ap (λ (a : ℕ). extent s a) (position_at m axis 0 there)
 
   pub permute_walks : Positive s
