@@ -13,7 +13,7 @@ Items of a cell stand between semicolons; words in parentheses may follow a name
                all; all calls; every call; (02 ..)
   shown by     crate/File: name, name        of crates/crate/proofs/File.antt
                crate/Facts; Tables of crate, crate; proofs of crate, crate/function
-                                           (a function of the crate's code: most prove with no file of their own)
+                                           (a function of the crate's code: some prove with no file of their own)
                crate must-fail edit, edit; model test name; a file or a folder
                further; marked ●; agreement; vectors; by type
   cited by     crate, crate; `function`, `function`; crate/File: name; crate must-fail edit, edit
