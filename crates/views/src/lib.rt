@@ -37,10 +37,47 @@ pub fn is_stride(s: Stride, up: usize, down: usize) -> bool
 
 // What coordinate c adds along an axis of extent n.
 pub fn step_at(n: usize, s: Stride, c: usize) -> usize
-    requires { (c < n) × (span n s < 2 ^ 63) }
+    requires { (c < n) × (span n s < 2 ^ 64) }
     ensures { (result ≡ step n s c) × (result ≤ span n s) }
 {
     c * s.up + (n - 1 - c) * s.down
+}
+
+// Cells along one axis: the place of the first, and what a step adds.
+#[derive(Clone, Copy)]
+pub struct Line {
+    pub place: usize,
+    pub stride: Stride,
+}
+
+impl Line {
+    // One cell after another.
+    pub fn unit(place: usize) -> Line
+        ensures { result ≡ record { place = place; stride = stride_of 1 0 } }
+    {
+        Line {
+            place,
+            stride: Stride { up: 1, down: 0 },
+        }
+    }
+
+    // One cell again and again.
+    pub fn still(place: usize) -> Line
+        ensures { result ≡ record { place = place; stride = stride_of 0 0 } }
+    {
+        Line {
+            place,
+            stride: Stride { up: 0, down: 0 },
+        }
+    }
+
+    // The place of cell i of n.
+    pub fn at(self, n: usize, i: usize) -> usize
+        requires { (i < n) × (self.place + span n self.stride < 2 ^ 64) }
+        ensures { (result ≡ self.place + step n self.stride i) × (result ≤ self.place + span n self.stride) }
+    {
+        self.place + step_at(n, self.stride, i)
+    }
 }
 
 // The place of row i: what the coordinates along the first three axes add.
@@ -55,6 +92,19 @@ pub fn row_place(g: Row, v: View, i: usize) -> usize
     let p1 = step_at(n1, v.s1, outer % n1);
     let p2 = step_at(n2, v.s2, i % n2);
     v.base + (p0 + (p1 + p2))
+}
+
+impl View {
+    // The cells of row i.
+    pub fn row(self, g: Row, i: usize) -> Line
+        requires { (i < rows_of g) × (row_reach g self < 2 ^ 63) }
+        ensures { (result ≡ record { place = row_place g self i; stride = self.s3 }) × (result.place ≤ row_reach g self) }
+    {
+        Line {
+            place: row_place(g, self, i),
+            stride: self.s3,
+        }
+    }
 }
 
 // A row of the given rank with x in front, so that its last word is the fourth.

@@ -10,19 +10,19 @@ pub nonzero_div-outer-2 : goal.nonzero_div-outer-2
 nonzero_div-outer-2 c = second_pos c.args.g c.args.i c.requires.0
 
 pub step_at-p0-requires : goal.step_at-p0-requires
-step_at-p0-requires c = (first_lt c.args.g c.args.i c.requires.0, span0_lt c.args.g c.args.v c.requires.1)
+step_at-p0-requires c = (first_lt c.args.g c.args.i c.requires.0, omega (arith, span0_lt c.args.g c.args.v c.requires.1))
 
 pub nonzero_rem-outer : goal.nonzero_rem-outer
 nonzero_rem-outer c = second_pos c.args.g c.args.i c.requires.0
 
 pub step_at-p1-requires : goal.step_at-p1-requires
-step_at-p1-requires c = (second_lt c.args.g c.args.i c.requires.0, span1_lt c.args.g c.args.v c.requires.1)
+step_at-p1-requires c = (second_lt c.args.g c.args.i c.requires.0, omega (arith, span1_lt c.args.g c.args.v c.requires.1))
 
 pub nonzero_rem-i : goal.nonzero_rem-i
 nonzero_rem-i c = third_pos c.args.g c.args.i c.requires.0
 
 pub step_at-p2-requires : goal.step_at-p2-requires
-step_at-p2-requires c = (third_lt c.args.g c.args.i c.requires.0, span2_lt c.args.g c.args.v c.requires.1)
+step_at-p2-requires c = (third_lt c.args.g c.args.i c.requires.0, omega (arith, span2_lt c.args.g c.args.v c.requires.1))
 
 pub overflow_add-result : goal.overflow_add-result
 unfolding row_reach
