@@ -82,7 +82,7 @@ impl Line {
 
 // The place of row i: what the coordinates along the first three axes add.
 pub fn row_place(g: Row, v: View, i: usize) -> usize
-    requires { (i < rows_of g) × (row_reach g v < 2 ^ 63) }
+    requires { (i < rows_of g) × (row_reach g v < 2 ^ 64) }
     ensures { (result ≡ row_place g v i) × (result ≤ row_reach g v) }
 {
     let n1 = g.r1;
@@ -97,7 +97,7 @@ pub fn row_place(g: Row, v: View, i: usize) -> usize
 impl View {
     // The cells of row i.
     pub fn row(self, g: Row, i: usize) -> Line
-        requires { (i < rows_of g) × (row_reach g self < 2 ^ 63) }
+        requires { (i < rows_of g) × (row_reach g self < 2 ^ 64) }
         ensures { (result ≡ record { place = row_place g self i; stride = self.s3 }) × (result.place ≤ row_reach g self) }
     {
         Line {
