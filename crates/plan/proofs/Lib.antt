@@ -4,3 +4,4 @@ pub mod ByOperation
 pub mod Outcomes
 pub mod Facts
 pub mod UnusedWords
+pub mod Coded

@@ -2,3 +2,4 @@ pub mod Operations
 pub mod Types
 pub mod Words
 pub mod Answers
+pub mod Coded

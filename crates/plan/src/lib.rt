@@ -1,21 +1,28 @@
 // The vocabulary of plans: number kinds, rows, nodes, intervals and answers, and what decodes them.
 #![tactic(auto)]
 
+pub mod faults;
+pub mod instructions;
+pub mod operations;
+
 ghost use Rattle.std.specs.Prelude.{◌≡◌, cond, pos, ◌+◌, ◌*◌, ◌/◌, ◌%◌, ◌^◌, ◌<◌, ◌≤◌, eqb, length, get_or};
 ghost use Rattle.plan.specs.Operations.{masks, operation_count, is_operation};
 ghost use Rattle.plan.specs.Types.{range_of};
+ghost use Rattle.plan.specs.Coded.{number_of};
 ghost use Rattle.plan.specs.Words.{size_of, size_at, row_at, node_of, node_at, length_right, in_number, reads, unused_zero};
 
+use operations::Operation;
+
 // The number of a node in its plan. Never taken for an element number.
-#[derive(Clone, Copy)]
+#[derive(Clone, Copy, Debug, PartialEq, Eq)]
 pub struct NodeNumber(pub usize);
 
 // The number of an element in its node, row-major.
-#[derive(Clone, Copy)]
+#[derive(Clone, Copy, Debug, PartialEq, Eq)]
 pub struct ElementNumber(pub usize);
 
 // Four words of a node: row A or row B.
-#[derive(Clone, Copy)]
+#[derive(Clone, Copy, Debug, PartialEq, Eq)]
 pub struct Row {
     pub r0: usize,
     pub r1: usize,
@@ -24,14 +31,14 @@ pub struct Row {
 }
 
 // The whole numbers low..high.
-#[derive(Clone, Copy)]
+#[derive(Clone, Copy, Debug, PartialEq, Eq)]
 pub struct Interval {
     pub low: i64,
     pub high: i64,
 }
 
 // A node's seventeen words by name. A count that is negative in the table is 2^64 - 1 here.
-#[derive(Clone, Copy)]
+#[derive(Clone, Copy, Debug, PartialEq, Eq)]
 pub struct Node {
     pub op: usize,
     pub source1: NodeNumber,
@@ -48,7 +55,7 @@ pub struct Node {
 
 // What a call answers: 0 or the refusal's number, its place, and what the call counts.
 #[repr(C)]
-#[derive(Clone, Copy)]
+#[derive(Clone, Copy, Debug, PartialEq, Eq)]
 pub struct Answer {
     pub number: u64,
     pub place: u64,
@@ -72,7 +79,7 @@ pub fn is_operation(op: usize) -> bool
 pub fn used_mask(op: usize) -> usize
     ensures { result ≡ get_or masks op 0 }
 {
-    if op < 24 {
+    if op < MASKS.len() {
         return MASKS[op];
     }
     0
@@ -119,17 +126,16 @@ pub fn size_of_word(w: i64) -> usize
 pub fn in_number(x: Node, k: usize) -> bool
     ensures { result ≡ in_number x k }
 {
-    let op = x.op;
-    let number = x.number;
-    !((op == 23) & (k == 3)) | (size_of_word(number) == 3)
+    let third_of_stack = (x.op == Operation::Stack as usize) & (k == 3);
+    !third_of_stack | (size_of_word(x.number) == 3)
 }
 
-// A node with that mask reads source k: its operation uses word k, and a STACK has so many sources.
-pub fn reads(x: Node, mask: usize, k: usize) -> bool
-    requires { (mask ≡ get_or masks x.op 0) × (k < 17) }
+// A node reads source k: its operation uses word k, and a STACK has so many sources.
+pub fn reads(x: Node, k: usize) -> bool
+    requires { k < 17 }
     ensures { result ≡ reads x k }
 {
-    uses_word(mask, k) & in_number(x, k)
+    uses_word(used_mask(x.op), k) & in_number(x, k)
 }
 
 // The word at a place of a table, as a count.
@@ -206,16 +212,15 @@ fn if_unused(used: bool, word: i64) -> i64
 }
 
 // Rule 3: the words that the operation does not use are zero. Their bits are put together and tested once.
-pub fn unused_zero(op: usize, mask: usize, words: &[i64]) -> bool
-    requires { (op < operation_count) × (mask ≡ get_or masks op 0) × (length words.now ≡ 17) }
-    ensures { result ≡ unused_zero op words.now }
+pub fn unused_zero(op: Operation, words: &[i64]) -> bool
+    requires { length words.now ≡ 17 }
+    ensures { result ≡ unused_zero (number_of op) words.now }
 {
+    let mask = used_mask(op.number());
     let mut bits = 0i64;
-    let mut k = 1;
-    while k < 17 {
+    for k in 1..17 {
         let used = uses_word(mask, k);
-        bits = bits | if_unused(used, words[k]);
-        k += 1;
+        bits |= if_unused(used, words[k]);
     }
     bits == 0
 }

@@ -5,4 +5,4 @@ use Rattle.plan.proofs.reads.Goals as goal
 
 pub returns : goal.returns
 unfolding reads
-returns c = rw (c.in_number.ensures, c.uses_word.ensures, c.requires.0, mask_uses c.args.x.op c.args.k c.requires.1) refl
+returns c = rw (c.in_number.ensures, c.uses_word.ensures, c.used_mask.ensures, mask_uses c.args.x.op c.args.k c.requires) refl

@@ -1,0 +1,69 @@
+ghost use Rattle.std.specs.Prelude.{◌≡◌, Result};
+ghost use Rattle.plan.specs.Answers.{answer_of};
+ghost use Rattle.plan.specs.Coded.{outcome_of};
+
+use crate::Answer;
+
+// Why a call refuses: the number of each is the one that a caller is told.
+#[derive(Clone, Copy, Debug, PartialEq, Eq)]
+pub enum Fault {
+    Length = 1,
+    NoOperation = 2,
+    UnusedWord = 3,
+    Source = 4,
+    TypeNumber = 5,
+    OperandTypes = 6,
+    RowOrNumber = 7,
+    Shapes = 8,
+    Devices = 9,
+    ZeroDivisor = 10,
+    ResultRange = 11,
+    TotalElements = 12,
+    InputLength = 13,
+    Room = 14,
+    Flag = 15,
+    Limits = 16,
+    NoElement = 17,
+    CutShort = 20,
+    NumberTooLong = 21,
+    BytesLeft = 22,
+    FileHead = 23,
+    FileOperation = 24,
+    PackedRange = 25,
+    Edition = 26,
+}
+
+// Why a call refuses, and where.
+#[derive(Clone, Copy, Debug, PartialEq, Eq)]
+pub struct Refusal {
+    pub fault: Fault,
+    pub place: usize,
+}
+
+impl Fault {
+    // This fault at a place.
+    pub fn at(self, place: usize) -> Refusal
+        ensures { result ≡ record { fault = self; place = place } }
+    {
+        Refusal { fault: self, place }
+    }
+}
+
+impl From<Result<u64, Refusal>> for Answer {
+    ghost from_gives = { λ r a. a ≡ answer_of (λ n. n) (outcome_of (λ n. n) r) };
+
+    fn from(ended: Result<u64, Refusal>) -> Answer {
+        match ended {
+            Ok(count) => Answer {
+                number: 0,
+                place: 0,
+                count,
+            },
+            Err(refusal) => Answer {
+                number: refusal.fault as u64,
+                place: refusal.place as u64,
+                count: 0,
+            },
+        }
+    }
+}
