@@ -1,9 +1,9 @@
 // The vocabulary of plans: number kinds, rows, nodes, intervals and answers, and what decodes them.
 #![tactic(auto)]
 
-pub mod faults;
-pub mod instructions;
-pub mod operations;
+mod faults;
+mod instructions;
+mod operations;
 
 ghost use Rattle.std.specs.Prelude.{◌≡◌, cond, pos, ◌+◌, ◌*◌, ◌/◌, ◌%◌, ◌^◌, ◌<◌, ◌≤◌, eqb, length, get_or};
 ghost use Rattle.plan.specs.Operations.{masks, operation_count, is_operation};
@@ -11,7 +11,9 @@ ghost use Rattle.plan.specs.Types.{range_of};
 ghost use Rattle.plan.specs.Coded.{number_of};
 ghost use Rattle.plan.specs.Words.{size_of, size_at, row_at, node_of, node_at, length_right, in_number, reads, unused_zero};
 
-use operations::Operation;
+pub use faults::{Fault, Refusal};
+pub use instructions::Instruction;
+pub use operations::{Operation, UnknownOperation};
 
 // The number of a node in its plan. Never taken for an element number.
 #[derive(Clone, Copy, Debug, PartialEq, Eq)]
