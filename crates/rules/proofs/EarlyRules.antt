@@ -43,9 +43,9 @@ module _ (t : List ℤ) (i : ℕ) (x : Node) (q : x ≡ node_at t i) where
     pub early_2 : not r2 ≡ true → Early t i 2
     early_2 f = fails_only (omega arith) (fails_here _ (off r2 is_2 f))
 
-    module _ (n2 : not r2 ≡ false) (w : List ℤ) (e : w ≡ words_of t i) (r3 : Bool) (e3 : r3 ≡ unused_zero x.op w) where
+    module _ (n2 : not r2 ≡ false) (w : List ℤ) (e : w ≡ words_of t i) {n : ℕ} (named : n ≡ x.op) (r3 : Bool) (e3 : r3 ≡ unused_zero n w) where
       is_3 : r3 ≡ unused_zero (node_at t i).op (words_of t i)
-      is_3 = e3 ∙ rw (q, e) refl
+      is_3 = e3 ∙ rw (named, q, e) refl
 
       pub early_3 : not r3 ≡ true → Early t i 3
       early_3 f = fails_only (omega arith) (holds_then _ (on r2 is_2 n2) (fails_here _ (off r3 is_3 f)))

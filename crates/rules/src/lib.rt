@@ -11,7 +11,7 @@ ghost use Rattle.shapes.specs.Shown.{shown};
 ghost use Rattle.bounds.specs.Narrow.{wide_of, Narrow};
 
 use bounds::Bounds;
-use plan::{Interval, Node};
+use plan::{Interval, Node, Operation};
 use shapes::Shape;
 
 // Rule 6: the sources' types suit the operation. 0 is bool.
@@ -132,16 +132,15 @@ fn param_right(x: Node, k: usize) -> bool
 }
 
 // Rule 4: the sources that are read are numbers of earlier nodes.
-fn sources_earlier(x: Node, mask: usize, n: usize) -> bool
-    requires { mask ≡ get_or masks x.op 0 }
+fn sources_earlier(x: Node, n: usize) -> bool
     ensures { result ≡ sources_earlier x n }
 {
     let s1 = x.source1;
     let s2 = x.source2;
     let s3 = x.source3;
-    let first = !plan::reads(x, mask, 1) | (s1.0 < n);
-    let second = !plan::reads(x, mask, 2) | (s2.0 < n);
-    let third = !plan::reads(x, mask, 3) | (s3.0 < n);
+    let first = !plan::reads(x, 1) | (s1.0 < n);
+    let second = !plan::reads(x, 2) | (s2.0 < n);
+    let third = !plan::reads(x, 3) | (s3.0 < n);
     first & (second & third)
 }
 
@@ -355,16 +354,16 @@ pub fn early(table: &[i64], i: usize, x: Node, mask: usize) -> usize
     requires { (17 * i + 17 ≤ length table.now) × (x ≡ node_at table.now i) × (mask ≡ get_or masks x.op 0) }
     ensures { Early table.now i result }
 {
-    let op = x.op;
-    if !plan::is_operation(op) {
-        return 2;
-    }
+    let op = match Operation::try_from(x.op) {
+        Ok(op) => op,
+        Err(_) => return 2,
+    };
     let start = 17 * i;
     let end = start + 17;
-    if !plan::unused_zero(op, mask, &table[start..end]) {
+    if !plan::unused_zero(op, &table[start..end]) {
         return 3;
     }
-    if !sources_earlier(x, mask, i) {
+    if !sources_earlier(x, i) {
         return 4;
     }
     0
