@@ -106,10 +106,10 @@ fn broken(w: &[i64], op: usize, mask: usize) -> usize
     requires { Decoded w.now op mask }
     ensures { Breaks w.now result }
 {
-    if !plan::is_operation(op) {
+    let Ok(known) = plan::Operation::try_from(op) else {
         return 2;
-    }
-    if !plan::unused_zero(op, mask, w) {
+    };
+    if !plan::unused_zero(known, w) {
         return 3;
     }
     if !all_in_range(w) {
