@@ -2,7 +2,6 @@
 #![tactic(auto)]
 
 ghost use Rattle.std.specs.Prelude.{◌≡◌, cond, [], ◌+◌, ◌/◌, ◌-◌, ◌≤◌, ◌<◌, length, get_or};
-ghost use Rattle.plan.specs.Operations.{masks};
 ghost use Rattle.plan.specs.Words.{node_at, if_param, reads};
 ghost use Rattle.shapes.specs.Shown.{shown};
 ghost use Rattle.rules.specs.Rules.{no_source};
@@ -20,11 +19,11 @@ use plan::Node;
 use rules::Record;
 
 // Source k, of record r, whose cells begin at `start`; no extents where the node does not read it.
-fn operand(x: Node, mask: usize, k: usize, r: Record, start: usize) -> Operand
-    requires { (mask ≡ get_or masks x.op 0) × (k < 17) }
+fn operand(x: Node, k: usize, r: Record, start: usize) -> Operand
+    requires { k < 17 }
     ensures { (shown result.shape ≡ cond (reads x k) (shown r.extents) []) × (result.base ≡ cond (reads x k) start 0) }
 {
-    if plan::reads(x, mask, k) {
+    if plan::reads(x, k) {
         let e = r.extents;
         return Operand {
             shape: e,
@@ -53,13 +52,12 @@ pub fn run_node(
     ensures { (result ≡ if_param table.now i (count_of (get_or (nodes_of records count) i no_source))) × ((o : Operands) → NodeReads table.now (nodes_of records count) i given.now known.now from values.old flags.old o → Evaluates (node_at table.now i) (node_extents (nodes_of records count) i) o values.old flags.old (node_start (nodes_of records count) i) values.new flags.new) }
 {
     let x = plan::node_at(table, i);
-    let mask = plan::used_mask(x.op);
     let place1 = verifier::source_place(x.source1, i);
     let place2 = verifier::source_place(x.source2, i);
     let place3 = verifier::source_place(x.source3, i);
-    let a = operand(x, mask, 1, records[place1], starts[place1]);
-    let b = operand(x, mask, 2, records[place2], starts[place2]);
-    let d = operand(x, mask, 3, records[place3], starts[place3]);
+    let a = operand(x, 1, records[place1], starts[place1]);
+    let b = operand(x, 2, records[place2], starts[place2]);
+    let d = operand(x, 3, records[place3], starts[place3]);
     let r = records[i];
     let e = r.extents;
     evaluation::eval_node(x, e, a, b, d, given, known, from, values, flags, starts[i]);

@@ -1,10 +1,9 @@
 // The check of a plan: its answer and what it writes.
 #![tactic(auto)]
 
-ghost use Rattle.std.specs.Prelude.{ℕ, ◌+◌, ◌*◌, ◌≤◌, ◌<◌, ◌/◌, ◌≡◌, cond, [], ◌∷◌, map, eqb, length, take, get_or};
+ghost use Rattle.std.specs.Prelude.{ℕ, ◌+◌, ◌*◌, ◌≤◌, ◌<◌, ◌/◌, ◌≡◌, cond, [], ◌∷◌, map, eqb, length, take};
 ghost use Rattle.std.proofs.lemmas.List.Edits.{sets};
 ghost use Rattle.laws.specs.Lists.{concat};
-ghost use Rattle.plan.specs.Operations.{masks};
 ghost use Rattle.plan.specs.Words.{reads};
 ghost use Rattle.rules.specs.Rules.{no_source};
 ghost use Rattle.rules.specs.Code.{view_of};
@@ -35,11 +34,11 @@ pub fn source_place(s: NodeNumber, i: usize) -> usize
 }
 
 // A source's record, or what stands for one that is not read.
-fn source_record(x: Node, mask: usize, k: usize, r: Record) -> Record
-    requires { (mask ≡ get_or masks x.op 0) × (k < 17) }
+fn source_record(x: Node, k: usize, r: Record) -> Record
+    requires { k < 17 }
     ensures { view_of result ≡ cond (reads x k) (view_of r) no_source }
 {
-    if plan::reads(x, mask, k) {
+    if plan::reads(x, k) {
         return r;
     }
     rules::blank()
@@ -92,9 +91,9 @@ pub fn derive(table: &[i64], count: usize) -> Derivation
         let place1 = source_place(x.source1, i);
         let place2 = source_place(x.source2, i);
         let place3 = source_place(x.source3, i);
-        let a = source_record(x, mask, 1, records[place1]);
-        let b = source_record(x, mask, 2, records[place2]);
-        let c = source_record(x, mask, 3, records[place3]);
+        let a = source_record(x, 1, records[place1]);
+        let b = source_record(x, 2, records[place2]);
+        let c = source_record(x, 3, records[place3]);
         let judged = rules::judge(x, mask, params, a, b, c);
         match judged {
             Judged::Breaks(number) => {
