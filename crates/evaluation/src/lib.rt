@@ -42,8 +42,8 @@ fn move_cells(g: Row, v: View, values: &mut [i64], flags: &mut [u8], start: usiz
         d: v,
     });
     let rows = walking::rows(w.grid);
-    moving::move_values(values, w.grid, w.a, rows, start);
-    moving::move_flags(flags, w.grid, w.a, rows, start);
+    moving::move_cells(values, w.grid, w.a, rows, start);
+    moving::move_cells(flags, w.grid, w.a, rows, start);
 }
 
 // PERMUTE, FLIP, EXPAND and SHRINK.
@@ -119,8 +119,8 @@ pub fn eval_padded(
     let inner = views::grid(s);
     let offsets = views::words(x.rowb, shapes::rank(s));
     let rows = walking::rows(g);
-    moving::pad_values(values, g, offsets, inner, base, rows, start);
-    moving::pad_flags(flags, g, offsets, inner, base, rows, start);
+    moving::lay_cells(values, 0, g, offsets, inner, base, rows, start);
+    moving::lay_cells(flags, 0, g, offsets, inner, base, rows, start);
 }
 
 // CONST: its number.
@@ -335,7 +335,7 @@ fn eval_known(x: Node, r: Shape, base: usize, values: &mut [i64], flags: &mut [u
 {
     let n = shaping::count(r);
     overlaying::known_values(values, flags, n, base, start);
-    moving::fill_flags(flags, n, start, 1);
+    moving::fill(flags, n, start, 1);
 }
 
 // STACK: one source after another.

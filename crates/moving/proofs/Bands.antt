@@ -81,8 +81,8 @@ module _ {A : Type 0} (d : A) (l : List A) where
 -- ---- where a row begins
 
 -- what the coordinates of a row that has cells of the source add, by the source's strides t
-pub start_fits : (r o s : Row) (base i : ℕ) {t : Row} → Laid r o s → row_inside r o s i ≡ true → base + cells_of s < 2 ^ 63 → t ≡ strides_of s
-    → base + ((i / r.r2 / r.r1 - o.r0) * t.r0 + ((i / r.r2 % r.r1 - o.r1) * t.r1 + (i % r.r2 - o.r2) * t.r2)) < 2 ^ 63
+pub start_fits : (r o s : Row) (base i : ℕ) {t : Row} → Laid r o s → row_inside r o s i ≡ true → base + cells_of s < 2 ^ 64 → t ≡ strides_of s
+    → base + ((i / r.r2 / r.r1 - o.r0) * t.r0 + ((i / r.r2 % r.r1 - o.r1) * t.r1 + (i % r.r2 - o.r2) * t.r2)) < 2 ^ 64
 unfolding row_start
 start_fits r o s base i laid b h e = rw e (omega (arith, row_in_source r o s i b base laid.extents.p3, h))
 
@@ -95,14 +95,14 @@ fetched d l m true true x h = h refl refl
 fetched d l m true false x h = refl
 fetched d l m false b x h = refl
 
--- after i rows, row i at `to`
-pub pad_turn : {A : Type 0} (d : A) (l : List A) (r o s : Row) (base start i : ℕ) {m end : List A} {to : ℕ} → 0 < s.r3 → base + cells_of s ≤ start
+-- after i rows, row i
+pub pad_turn : {A : Type 0} (d : A) (l : List A) (r o s : Row) (base start i : ℕ) {m end : List A} → 0 < s.r3 → base + cells_of s ≤ start
     → m ≡ store l start (i * r.r3) (λ (j : ℕ). fetch d l (band_place r o s base j))
-    → end ≡ store m to r.r3 (row_cell d m r o s base i) → to ≡ start + i * r.r3
+    → end ≡ store m (start + i * r.r3) r.r3 (row_cell d m r o s base i)
     → end ≡ store l start ((i + 1) * r.r3) (λ (j : ℕ). fetch d l (band_place r o s base j))
 unfolding band_place
-pad_turn d l r o s base start i {m} {end} {to} some-cells near e f at =
-    store_block l m end start i r.r3 (λ (j : ℕ). fetch d l (band_place r o s base j)) (row_cell d m r o s base i) e (rw at at f)
+pad_turn d l r o s base start i {m} {end} some-cells near e f =
+    store_block l m end start i r.r3 (λ (j : ℕ). fetch d l (band_place r o s base j)) (row_cell d m r o s base i) e f
     (λ c w.
     rw (digits_div i w, digits_mod i w)
     (fetched d l m (row_inside r o s i) (in_band o.r3 s.r3 c) (row_start r o s base i + (c - o.r3))

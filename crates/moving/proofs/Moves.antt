@@ -10,12 +10,11 @@ use Rattle.views.specs.declared.View.{View}
 use Rattle.views.specs.Views.{step, rows_of, row_place, place, reach}
 use Rattle.views.proofs.RowPlaces.{place_row, cell_below}
 
--- after i rows, row i from p on at `to`
-pub move_turn : {A : Type 0} (d : A) (l : List A) (g : Row) (v : View) (start i : ℕ) {m end : List A} {p to : ℕ} → reach g v < start → i < rows_of g
+-- after i rows, row i
+pub move_turn : {A : Type 0} (d : A) (l : List A) (g : Row) (v : View) (start i : ℕ) {m end : List A} → reach g v < start → i < rows_of g
     → m ≡ store l start (i * g.r3) (λ (j : ℕ). get_or l (place g v j) d)
-    → end ≡ store m to g.r3 (λ (c : ℕ). get_or m (p + step g.r3 v.s3 c) d) → to ≡ start + i * g.r3 → p ≡ row_place g v i
+    → end ≡ store m (start + i * g.r3) g.r3 (λ (c : ℕ). get_or m (row_place g v i + step g.r3 v.s3 c) d)
     → end ≡ store l start ((i + 1) * g.r3) (λ (j : ℕ). get_or l (place g v j) d)
-move_turn d l g v start i {m} {end} {p} {to} near few e f at first =
-    store_block l m end start i g.r3 (λ (j : ℕ). get_or l (place g v j) d) (λ (c : ℕ). get_or m (p + step g.r3 v.s3 c) d) e (rw at at f)
-    (λ c w.
-    rw (first, place_row g v i c w) (store_read l m start (i * g.r3) _ (row_place g v i + step g.r3 v.s3 c) d e (cell_below g v near i c few w)))
+move_turn d l g v start i {m} {end} near few e f =
+    store_block l m end start i g.r3 (λ (j : ℕ). get_or l (place g v j) d) (λ (c : ℕ). get_or m (row_place g v i + step g.r3 v.s3 c) d) e f
+    (λ c w. rw (place_row g v i c w) (store_read l m start (i * g.r3) _ (row_place g v i + step g.r3 v.s3 c) d e (cell_below g v near i c few w)))

@@ -332,10 +332,10 @@ fn begin_values(values: &mut [i64], how: usize, k: Row, kept: View, rows: usize,
     ensures { values.new ≡ store values.old start (cells_of k) (λ (e : ℕ). first how values.old (place k kept e)) }
 {
     if how == 0 {
-        moving::fill_values(values, rows * k.r3, start);
+        moving::fill(values, rows * k.r3, start, 0);
         return;
     }
-    moving::move_values(values, k, kept, rows, start);
+    moving::move_cells(values, k, kept, rows, start);
 }
 
 // REDUCE.
@@ -355,7 +355,7 @@ pub fn reduce(
     ensures values_after { values.new ≡ reduced_values how values.old flags.old k kept g gathered start }
     ensures flags_after { flags.new ≡ reduced_flags flags.old k kept g gathered start }
 {
-    moving::move_flags(flags, k, kept, rows, start);
+    moving::move_cells(flags, k, kept, rows, start);
     fold_blocks_flags(flags, k, kept, g, gathered, rows, blocks, start);
     begin_values(values, how, k, kept, rows, start);
     fold_blocks_values(values, how, k, kept, g, gathered, rows, blocks, start);

@@ -118,6 +118,9 @@ stride_is s up down e =
     let b = and_true (eqb s.up up) (eqb s.down down) e in
     rw (← eqb-true s.up up b.0, ← eqb-true s.down down b.1) refl
 
+pub stride_both : {s : Stride} {up down : ℕ} → s.up ≡ up → s.down ≡ down → s ≡ stride_of up down
+stride_both p q = rw (← p, ← q) refl
+
 -- a row has four words
 pub past_four : (row : Row) (k : ℕ) → (k ≡ 0 → ⊥) → (k ≡ 1 → ⊥) → (k ≡ 2 → ⊥) → (k ≡ 3 → ⊥) → 0 ≡ get_or (list_of row) k 0
 past_four row zero h0 h1 h2 h3 = absurd (h0 refl)

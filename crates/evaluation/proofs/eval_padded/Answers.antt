@@ -9,8 +9,8 @@ rows-rows-requires c =
     let cells = grid_cells (shown c.args.r) c.grid-g.result c.grid-g.ensures in
     (omega (arith, cells, c.requires.1.some), omega (arith, cells, c.requires.0.few))
 
-pub pad_values-requires : goal.pad_values-requires
-pad_values-requires c =
+pub lay_cells-requires : goal.lay_cells-requires
+lay_cells-requires c =
     let under = c.grid-inner in
     let over = c.grid-g in
     let o = rw c.rank.ensures at c.words-offsets.ensures in
@@ -19,8 +19,8 @@ pad_values-requires c =
     let inner = grid_cells (shown c.args.s) under.result under.ensures in
     (pad_laid c.args.x _ _ under.result over.result c.words-offsets.result c.requires.0 under.ensures over.ensures o, n, omega (arith, inner, c.requires.2), rw n (omega (arith, cells, c.requires.1.values)))
 
-pub pad_flags-requires : goal.pad_flags-requires
-pad_flags-requires c =
+pub lay_cells-requires-2 : goal.lay_cells-requires-2
+lay_cells-requires-2 c =
     let under = c.grid-inner in
     let over = c.grid-g in
     let o = rw c.rank.ensures at c.words-offsets.ensures in
@@ -34,4 +34,4 @@ returns c =
     let under = c.grid-inner in
     let over = c.grid-g in
     let o = rw c.rank.ensures at c.words-offsets.ensures in
-    λ s from. pad_evaluates c.args.x _ _ under.result over.result c.words-offsets.result c.requires.0 under.ensures over.ensures o c.args.base s _ _ c.args.start from c.pad_values.ensures c.pad_flags.ensures
+    λ s from. pad_evaluates c.args.x _ _ under.result over.result c.words-offsets.result c.requires.0 under.ensures over.ensures o c.args.base s _ _ c.args.start from c.lay_cells.ensures c.lay_cells-2.ensures

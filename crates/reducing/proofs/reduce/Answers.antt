@@ -12,7 +12,7 @@ fold_blocks_values-requires c =
 pub returns : goal.returns
 returns c =
     let a = c.args in
-    let e = flags_reduced a.k a.kept a.g a.gathered a.start a.rows a.blocks c.requires.5 c.requires.0 c.requires.1 _ _ _ c.requires.7 c.move_flags.ensures c.fold_blocks_flags.ensures in record {
+    let e = flags_reduced a.k a.kept a.g a.gathered a.start a.rows a.blocks c.requires.5 c.requires.0 c.requires.1 _ _ _ c.requires.7 (c.move_cells.ensures 0) c.fold_blocks_flags.ensures in record {
       values_after = values_reduced a.k a.kept a.g a.gathered a.start a.rows a.blocks c.requires.5 c.requires.0 c.requires.1 a.how _ _ _ _ _ _ c.requires.6 c.requires.7 c.begin_values.ensures c.fold_blocks_values.ensures e c.clear_own.ensures;
       flags_after = e;
     }

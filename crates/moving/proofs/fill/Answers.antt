@@ -1,0 +1,12 @@
+use Rattle.std.proofs.Common.{refl, rules}
+use Rattle.laws.proofs.Store.{store_none, store_step, store_done}
+use Rattle.moving.proofs.fill.Goals as goal
+
+pub loop-i-init : goal.loop-i-init
+loop-i-init g c = store_none _ _ _
+
+pub loop-i-preserved : goal.loop-i-preserved
+loop-i-preserved g c = store_step _ _ _ _ _ _ c.loop-i.invariant refl
+
+pub returns : goal.returns
+returns g c = store_done _ _ _ _ _ _ c.loop-i.invariant (search rules) (search rules)
