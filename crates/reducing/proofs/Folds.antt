@@ -7,13 +7,19 @@ use native.Mathlib.Numerals.{add-one}
 use native.Mathlib.Nat.{add-zero, add-suc, add_assoc, add-mul, one-mul, zero-mul}
 use lib.ListN.{length, get_or}
 use lib.Seq.{set-get_or}
+use Rattle.std.proofs.lemmas.List.{get_or_default}
 use Rattle.laws.specs.Store.{store}
-use Rattle.laws.proofs.Store.{store_block, store_again, store_read, store_ahead, store_hit, store_same}
+use Rattle.laws.proofs.Store.{store_block, store_again, store_read, store_ahead, store_hit, store_same, store_own}
+use Rattle.views.specs.declared.Line.{Line}
 use Rattle.views.specs.declared.Stride.{Stride}
 use Rattle.views.specs.Views.{step, span}
 use Rattle.views.proofs.Steps.{step_le}
 use Rattle.reducing.specs.Folding.{fold_from}
-use Rattle.reducing.specs.Gathering.{taken, runs}
+use Rattle.reducing.specs.Gathering.{along, far, taken, runs}
+
+-- a cell as it is read in a loop is the cell
+pub cell_read : {A : Type 0} (d : A) (l : List A) (p : ℕ) {x : A} → x ≡ get_or l p x → p < length l → x ≡ get_or l p d
+cell_read d l p e h = e ∙ get_or_default l p _ d h
 
 -- ---- one fold
 
@@ -30,20 +36,15 @@ module _ {A : Type 0} (f : A → A → A) where
   pub fold_done : (z z' : A) (v : ℕ → A) (i n : ℕ) (a : A) → a ≡ fold_from f z v i → z ≡ z' → i ≤ n → n ≤ i → a ≡ fold_from f z' v n
   fold_done z z' v i n a e begin p q = let h : i ≡ n = omega arith in rw (h, begin) at e
 
-  pub fold_turn : (z d : A) (l : List A) (p n : ℕ) (s : Stride) (i : ℕ) {j : ℕ} {a x : A} → a ≡ fold_from f z (λ (k : ℕ). get_or l (p + step n s k) d) i
-      → j ≡ step n s i → x ≡ f a (get_or l (p + j) d) → x ≡ fold_from f z (λ (k : ℕ). get_or l (p + step n s k) d) (i + 1)
-  fold_turn z d l p n s i e at r = r ∙ fold_step z _ i _ _ e (rw at)
+  pub fold_turn : (z d : A) (l : List A) (n : ℕ) (line : Line) (i : ℕ) {p : ℕ} {a x y : A} → a ≡ fold_from f z (λ (k : ℕ). get_or l (along n line k) d) i
+      → p ≡ along n line i → y ≡ get_or l p d → x ≡ f a y → x ≡ fold_from f z (λ (k : ℕ). get_or l (along n line k) d) (i + 1)
+  fold_turn z d l n line i e at read r = r ∙ fold_step z _ i _ _ e (rw (← at) read)
 
   -- only the values below m matter
   fold_same : (z : A) (v w : ℕ → A) (m : ℕ) → ((i : ℕ) → i < m → v i ≡ w i) → fold_from f z v m ≡ fold_from f z w m
   unfolding fold_from
   fold_same z v w zero h = refl
   fold_same z v w (suc m) h = rw (h m (omega arith), fold_same z v w m (λ i q. h i (omega arith)))
-
-  -- the same run, by an equal combination, stride and beginning
-  pub fold_arm : (d : A) (l : List A) (p n : ℕ) {g : A → A → A} {s s' : Stride} {z z' x y : A} → g ≡ f → s ≡ s' → z' ≡ z → y ≡ x
-      → x ≡ fold_from g z' (λ (i : ℕ). get_or l (p + step n s' i) d) n → y ≡ fold_from f z (λ (i : ℕ). get_or l (p + step n s i) d) n
-  fold_arm d l p n how stride begin end e = end ∙ rw (← how, stride, ← begin) e
 
   -- some, and then others
   fold_append : (z : A) (v : ℕ → A) (a b : ℕ) → fold_from f (fold_from f z v a) (λ (i : ℕ). v (a + i)) b ≡ fold_from f z v (a + b)
@@ -52,12 +53,6 @@ module _ {A : Type 0} (f : A → A → A) where
   fold_append z v a (suc b) = rw (add-suc, fold_append z v a b)
 
 -- ---- many, in place
-
--- what stands there, written again
-store_self : {A : Type 0} (d : A) (l : List A) (s n : ℕ) → store l s n (λ (j : ℕ). get_or l (s + j) d) ≡ l
-unfolding store
-store_self d l s zero = refl
-store_self d l s (suc n) = rw (store_self d l s n) (set-get_or l (s + n) d)
 
 module _ {A : Type 0} (f : A → A → A) (d : A) (l m : List A) where
   -- what cell j takes in is what it would have at first: it is ahead of what is written, its sources lie before that
@@ -69,32 +64,32 @@ module _ {A : Type 0} (f : A → A → A) (d : A) (l m : List A) where
       (fold_same f (get_or l j d) _ _ k (λ i h. rw (← same i h) (store_read l m s n g (from i) d e (near i h))))
 
   -- cell c takes in a run, or one cell
-  pub run_turn : (to c p n : ℕ) (a : Stride) (k : ℕ) (b : Stride) (g : ℕ → A) {q : ℕ} {z x y : A} → m ≡ store l to c g → p + (span n a + span k b) < to → c < n
-      → q ≡ step n a c → z ≡ get_or m (to + c) d → y ≡ x → x ≡ fold_from f z (λ (i : ℕ). get_or m (p + q + step k b i) d) k
-      → y ≡ fold_from f (get_or l (to + c) d) (λ (i : ℕ). get_or l (runs p n a k b c i) d) k
-  run_turn to c p n a k b g {q} e near h at begin end r =
-      end ∙ r
+  pub run_turn : (to c n : ℕ) (kept : Line) (k : ℕ) (run : Line) (g : ℕ → A) {q : ℕ} {z x : A} → m ≡ store l to c g → far n kept + far k run < to → c < n
+      → q ≡ along n kept c → z ≡ get_or m (to + c) d → x ≡ fold_from f z (λ (i : ℕ). get_or m (run.place + q + step k run.stride i) d) k
+      → x ≡ fold_from f (get_or l (to + c) d) (λ (i : ℕ). get_or l (runs n kept k run c i) d) k
+  run_turn to c n kept k run g {q} e near h at begin r =
+      r
       ∙ rw begin
-      (take_same to c g (to + c) k (λ (i : ℕ). p + q + step k b i) (runs p n a k b c) e (omega arith) (λ i w. rw at)
-      (λ i w. omega (arith, step_le n a c h, step_le k b i w)))
+      (take_same to c g (to + c) k (λ (i : ℕ). run.place + q + step k run.stride i) (runs n kept k run c) e (omega arith) (λ i w. omega (arith, at))
+      (λ i w. omega (arith, at, step_le n kept.stride c h, step_le k run.stride i w)))
 
-  pub cell_turn : (to c p n : ℕ) (a : Stride) (g : ℕ → A) {q : ℕ} {z w x y : A} → m ≡ store l to c g → p + span n a < to → c < n
-      → q ≡ step n a c → z ≡ get_or m (to + c) d → w ≡ get_or m (p + q) d → y ≡ x → x ≡ f z w
-      → y ≡ fold_from f (get_or l (to + c) d) (λ (i : ℕ). get_or l (p + step n a c) d) 1
+  pub cell_turn : (to c n : ℕ) (line : Line) (g : ℕ → A) {q : ℕ} {z w x : A} → m ≡ store l to c g → far n line < to → c < n
+      → q ≡ along n line c → z ≡ get_or m (to + c) d → w ≡ get_or m q d → x ≡ f z w
+      → x ≡ fold_from f (get_or l (to + c) d) (λ (i : ℕ). get_or l (along n line c) d) 1
   unfolding fold_from
-  cell_turn to c p n a g {q} e near h at begin other end r =
-      end ∙ r
-      ∙ rw (begin, other, at, store_ahead l m to c g (to + c) d e (omega arith), store_read l m to c g (p + step n a c) d e (omega (arith, step_le n a c h)))
+  cell_turn to c n line g {q} e near h at begin other r =
+      r
+      ∙ rw (begin, other, at, store_ahead l m to c g (to + c) d e (omega arith), store_read l m to c g (along n line c) d e (omega (arith, step_le n line.stride c h)))
 
   -- the next row of n cells
-  pub rows_turn : (m' : List A) (start r n k : ℕ) (from from' : ℕ → ℕ → ℕ) {to : ℕ} → m ≡ taken f d l start (r * n) from k → m' ≡ taken f d m to n from' k
-      → to ≡ start + r * n → ((c i : ℕ) → c < n → i < k → from' c i ≡ from (r * n + c) i) → ((c i : ℕ) → c < n → i < k → from' c i < start)
+  pub rows_turn : (m' : List A) (start r n k : ℕ) (from from' : ℕ → ℕ → ℕ) → m ≡ taken f d l start (r * n) from k → m' ≡ taken f d m (start + r * n) n from' k
+      → ((c i : ℕ) → c < n → i < k → from' c i ≡ from (r * n + c) i) → ((c i : ℕ) → c < n → i < k → from' c i < start)
       → m' ≡ taken f d l start ((r + 1) * n) from k
-  rows_turn m' start r n k from from' e e' at same near =
+  rows_turn m' start r n k from from' e e' same near =
       store_block l m m' start r n
       (λ (c : ℕ). fold_from f (get_or l (start + c) d) (λ (i : ℕ). get_or l (from c i) d) k)
       (λ (c : ℕ). fold_from f (get_or m (start + r * n + c) d) (λ (i : ℕ). get_or m (from' c i) d) k)
-      e (rw at at e')
+      e e'
       (λ c h. rw (← add_assoc start (r * n) c) (take_same start (r * n) _ (start + r * n + c) k (from' c) (from (r * n + c)) e (omega arith) (λ i. same c i h) (λ i. near c i h)))
 
   -- cells that hold z take in sources that lie before them
@@ -124,14 +119,14 @@ module _ {A : Type 0} (f : A → A → A) (d : A) (l m : List A) where
 -- before the first block
 pub blocks_none : {A : Type 0} (f : A → A → A) (d : A) (l : List A) (start n w : ℕ) (from : ℕ → ℕ → ℕ) → l ≡ taken f d l start n from (0 * w)
 unfolding fold_from
-blocks_none f d l start n w from = rw zero-mul (sym (store_self d l start n))
+blocks_none f d l start n w from = rw zero-mul (sym (store_own l start n d))
 
 -- a run of one cell is that cell
 one_step : (b : Stride) (i : ℕ) → i < 1 → step 1 b i ≡ 0
 unfolding step
 one_step b i q = let z : i ≡ 0 = omega arith in rw z (omega arith)
 
-pub run_of_one : {A : Type 0} (f : A → A → A) (d : A) (l : List A) (p to n : ℕ) (a b : Stride) {m : ℕ} {end : List A} → m ≡ 1
-    → end ≡ taken f d l to n (λ (c i : ℕ). p + step n a c) 1 → end ≡ taken f d l to n (runs p n a m b) m
-run_of_one f d l p to n a b e r =
-    r ∙ rw e (store_same l to n _ _ (λ c h. fold_same f _ _ _ 1 (λ i q. ap (λ (j : ℕ). get_or l j d) (omega (arith, one_step b i q)))))
+pub run_of_one : {A : Type 0} (f : A → A → A) (d : A) (l : List A) (to n : ℕ) (kept run : Line) {m : ℕ} {end : List A} → m ≡ 1
+    → end ≡ taken f d l to n (λ (c i : ℕ). kept.place + run.place + step n kept.stride c) 1 → end ≡ taken f d l to n (runs n kept m run) m
+run_of_one f d l to n kept run e r =
+    r ∙ rw e (store_same l to n _ _ (λ c h. fold_same f _ _ _ 1 (λ i q. ap (λ (j : ℕ). get_or l j d) (omega (arith, one_step run.stride i q)))))

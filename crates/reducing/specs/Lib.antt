@@ -1,2 +1,4 @@
 pub mod Folding
 pub mod Gathering
+pub mod Laws
+pub mod Sums

@@ -2,172 +2,153 @@
 // become 0.
 #![tactic(auto)]
 
-ghost use Rattle.std.specs.Prelude.{◌≡◌, ℕ, ◌+◌, ◌*◌, ◌^◌, ◌≤◌, ◌<◌, min, pos, nat_abs, length, get_or};
+ghost use Rattle.std.specs.Prelude.{◌≡◌, ℕ, ◌+◌, ◌*◌, ◌^◌, ◌≤◌, ◌<◌, pos, length, get_or};
 ghost use Rattle.laws.specs.Store.{store};
 ghost use Rattle.views.specs.Numbers.{SmallIn};
-ghost use Rattle.views.specs.Views.{step, span, rows_of, cells_of, place, reach};
-ghost use Rattle.reducing.specs.Folding.{fold_from, combine_of, first, reduced_flags, reduced_values};
-ghost use Rattle.reducing.specs.Gathering.{taken, runs, Room};
+ghost use Rattle.views.specs.Views.{rows_of, cells_of, place, reach};
+ghost use Rattle.reducing.specs.Folding.{fold_from, combine_of, first, source, reduced_flags, reduced_values};
+ghost use Rattle.reducing.specs.Gathering.{along, far, taken, runs, AllIn, Room};
 
+use folding::{Fold, Larger, Smaller, Sum};
 use plan::Row;
-use views::{Stride, View};
+use views::{Line, View};
 
-// how 0: the sum; else the larger.
-fn combine(how: usize, x: i64, y: i64) -> i64
-    requires { nat_abs x + nat_abs y < 2 ^ 63 }
-    ensures { result ≡ combine_of how x y }
+mod folding;
+
+// A run of n cells along a line folded into acc.
+fn fold_along<F: Fold>(cells: &[F::Cell], acc: F::Cell, n: usize, line: Line) -> F::Cell
+    requires { (far n line < length cells.now) × AllIn F.Fits F.blank cells.now line.place (far n line + 1) × F.HasRoom n acc }
+    ensures { result ≡ fold_from F.op acc (λ (i : ℕ). get_or cells.now (along n line i) F.blank) n }
 {
-    if how == 0 {
-        return x + y;
+    let mut folded = acc;
+    for i in 0..n {
+        folded = F::combine(folded, cells[line.at(n, i)]);
     }
-    if x < y { y } else { x }
+    folded
 }
 
-// A run of n numbers of one axis folded into acc.
-fn fold_run_values(values: &[i64], how: usize, acc: i64, n: usize, p: usize, s: Stride) -> i64
-    requires { (p + span n s < length values.now) × (nat_abs acc + n * 2147483648 < 2 ^ 63) × SmallIn values.now p (p + span n s + 1) }
-    ensures { result ≡ fold_from (combine_of how) acc (λ (i : ℕ). get_or values.now (p + step n s i) (pos 0)) n }
+// The same, where one place after another is a loop of its own.
+fn fold_run<F: Fold>(cells: &[F::Cell], acc: F::Cell, n: usize, line: Line) -> F::Cell
+    requires { (far n line < length cells.now) × AllIn F.Fits F.blank cells.now line.place (far n line + 1) × F.HasRoom n acc }
+    ensures { result ≡ fold_from F.op acc (λ (i : ℕ). get_or cells.now (along n line i) F.blank) n }
 {
-    let mut r = acc;
-    let mut i = 0;
-    while i < n {
-        let k = p + views::step_at(n, s, i);
-        let x = values[k];
-        r = combine(how, r, x);
-        i += 1;
+    if views::is_stride(line.stride, 1, 0) {
+        return fold_along::<F>(cells, acc, n, Line::unit(line.place));
     }
-    r
+    fold_along::<F>(cells, acc, n, line)
 }
 
-// The same, where sums and maxima, and of them those of one place after another, are loops of their own.
-fn run_values(values: &[i64], how: usize, acc: i64, n: usize, p: usize, s: Stride) -> i64
-    requires { (p + span n s < length values.now) × (nat_abs acc + n * 2147483648 < 2 ^ 63) × SmallIn values.now p (p + span n s + 1) }
-    ensures { result ≡ fold_from (combine_of how) acc (λ (i : ℕ). get_or values.now (p + step n s i) (pos 0)) n }
+// The line that begins further on.
+fn moved(line: Line, by: usize) -> Line
+    requires { line.place + by < 2 ^ 64 }
+    ensures { result ≡ record { place = line.place + by; stride = line.stride } }
 {
-    let one = Stride { up: 1, down: 0 };
-    let near = views::is_stride(s, 1, 0);
-    if how == 0 {
-        if near {
-            return fold_run_values(values, 0, acc, n, p, one);
-        }
-        return fold_run_values(values, 0, acc, n, p, s);
+    Line {
+        place: line.place + by,
+        stride: line.stride,
     }
-    if near {
-        return fold_run_values(values, 1, acc, n, p, one);
-    }
-    fold_run_values(values, 1, acc, n, p, s)
 }
 
-// Each number of a row of n takes in a run of m.
-fn fold_runs_values(
-    values: &mut [i64],
-    how: usize,
+// Each cell of a row of n takes in a run of m.
+fn fold_runs<F: Fold>(
+    cells: &mut [F::Cell],
     n: usize,
-    p: usize,
-    a: Stride,
+    kept: Line,
     m: usize,
-    b: Stride,
+    gathered: Line,
     to: usize,
 )
-    requires { (p + (span n a + span m b) < to) × (to + n ≤ length values.old) × SmallIn values.old p (p + (span n a + span m b) + 1) × Room values.old to n m }
-    ensures { values.new ≡ taken (combine_of how) (pos 0) values.old to n (runs p n a m b) m }
+    requires { (far n kept + far m gathered < to) × (to + n ≤ length cells.old) × AllIn F.Fits F.blank cells.old (kept.place + gathered.place) (far n kept + far m gathered + 1) × Room F.HasRoom F.blank cells.old to n m }
+    ensures { cells.new ≡ taken F.op F.blank cells.old to n (runs n kept m gathered) m }
 {
-    let mut c = 0;
-    while c < n {
-        let acc = values[to + c];
-        let r = run_values(values, how, acc, m, p + views::step_at(n, a, c), b);
-        values[to + c] = r;
-        c += 1;
+    for c in 0..n {
+        let run = moved(gathered, kept.at(n, c));
+        cells[to + c] = fold_run::<F>(cells, cells[to + c], m, run);
     }
 }
 
-// Each number of a row of n takes in one.
-fn fold_cells_values(values: &mut [i64], how: usize, n: usize, p: usize, a: Stride, to: usize)
-    requires { (p + span n a < to) × (to + n ≤ length values.old) × SmallIn values.old p (p + span n a + 1) × Room values.old to n 1 }
-    ensures { values.new ≡ taken (combine_of how) (pos 0) values.old to n (λ (c i : ℕ). p + step n a c) 1 }
+// Each cell of a row of n takes in one of a line.
+fn take_along<F: Fold>(cells: &mut [F::Cell], n: usize, line: Line, to: usize)
+    requires { (far n line < to) × (to + n ≤ length cells.old) × AllIn F.Fits F.blank cells.old line.place (far n line + 1) × Room F.HasRoom F.blank cells.old to n 1 }
+    ensures { cells.new ≡ taken F.op F.blank cells.old to n (λ (c i : ℕ). along n line c) 1 }
 {
-    let mut c = 0;
-    while c < n {
-        let k = p + views::step_at(n, a, c);
-        let x = values[k];
-        let y = values[to + c];
-        let r = combine(how, y, x);
-        values[to + c] = r;
-        c += 1;
+    for c in 0..n {
+        cells[to + c] = F::combine(cells[to + c], cells[line.at(n, c)]);
     }
 }
 
-// The same, where sums and maxima, and of them those of one place after another, are loops of their own.
-fn cells_values(values: &mut [i64], how: usize, n: usize, p: usize, a: Stride, to: usize)
-    requires { (p + span n a < to) × (to + n ≤ length values.old) × SmallIn values.old p (p + span n a + 1) × Room values.old to n 1 }
-    ensures { values.new ≡ taken (combine_of how) (pos 0) values.old to n (λ (c i : ℕ). p + step n a c) 1 }
+// The same, where one place after another is a loop of its own.
+fn take_each<F: Fold>(cells: &mut [F::Cell], n: usize, line: Line, to: usize)
+    requires { (far n line < to) × (to + n ≤ length cells.old) × AllIn F.Fits F.blank cells.old line.place (far n line + 1) × Room F.HasRoom F.blank cells.old to n 1 }
+    ensures { cells.new ≡ taken F.op F.blank cells.old to n (λ (c i : ℕ). along n line c) 1 }
 {
-    let one = Stride { up: 1, down: 0 };
-    let near = views::is_stride(a, 1, 0);
-    if how == 0 {
-        if near {
-            fold_cells_values(values, 0, n, p, one, to);
-            return;
-        }
-        fold_cells_values(values, 0, n, p, a, to);
+    if views::is_stride(line.stride, 1, 0) {
+        take_along::<F>(cells, n, Line::unit(line.place), to);
         return;
     }
-    if near {
-        fold_cells_values(values, 1, n, p, one, to);
-        return;
-    }
-    fold_cells_values(values, 1, n, p, a, to);
+    take_along::<F>(cells, n, line, to);
 }
 
 // A row of the result and a row of m of what is gathered: where m is 1, cell by cell.
-fn fold_row_values(
-    values: &mut [i64],
-    how: usize,
+fn fold_row<F: Fold>(
+    cells: &mut [F::Cell],
     n: usize,
-    p: usize,
-    a: Stride,
+    kept: Line,
     m: usize,
-    b: Stride,
+    gathered: Line,
     to: usize,
 )
-    requires { (p + (span n a + span m b) < to) × (to + n ≤ length values.old) × SmallIn values.old p (p + (span n a + span m b) + 1) × Room values.old to n m }
-    ensures { values.new ≡ taken (combine_of how) (pos 0) values.old to n (runs p n a m b) m }
+    requires { (far n kept + far m gathered < to) × (to + n ≤ length cells.old) × AllIn F.Fits F.blank cells.old (kept.place + gathered.place) (far n kept + far m gathered + 1) × Room F.HasRoom F.blank cells.old to n m }
+    ensures { cells.new ≡ taken F.op F.blank cells.old to n (runs n kept m gathered) m }
 {
     if m == 1 {
-        cells_values(values, how, n, p, a, to);
+        take_each::<F>(cells, n, moved(kept, gathered.place), to);
         return;
     }
-    fold_runs_values(values, how, n, p, a, m, b, to);
+    fold_runs::<F>(cells, n, kept, m, gathered, to);
 }
 
-// All rows of the result, and the row of what is gathered that begins at `offset`.
-fn fold_rows_values(
-    values: &mut [i64],
-    how: usize,
+// All rows of the result, and one row of what is gathered.
+fn fold_rows<F: Fold>(
+    cells: &mut [F::Cell],
     k: Row,
     kept: View,
     m: usize,
-    b: Stride,
-    offset: usize,
+    gathered: Line,
     rows: usize,
     start: usize,
 )
-    requires { (rows ≡ rows_of k) × (reach k kept + (offset + span m b) < start) × (start + rows * k.r3 ≤ length values.old) × SmallIn values.old kept.base (reach k kept + (offset + span m b) + 1) × Room values.old start (rows * k.r3) m }
-    ensures { values.new ≡ taken (combine_of how) (pos 0) values.old start (rows * k.r3) (λ (e i : ℕ). place k kept e + (offset + step m b i)) m }
+    requires { (rows ≡ rows_of k) × (reach k kept + far m gathered < start) × (start + rows * k.r3 ≤ length cells.old) × AllIn F.Fits F.blank cells.old kept.base (reach k kept + far m gathered + 1) × Room F.HasRoom F.blank cells.old start (rows * k.r3) m }
+    ensures { cells.new ≡ taken F.op F.blank cells.old start (rows * k.r3) (λ (e i : ℕ). place k kept e + along m gathered i) m }
 {
     let n = k.r3;
-    let mut i = 0;
-    let mut to = start;
-    while i < rows {
-        let p = views::row_place(k, kept, i) + offset;
-        fold_row_values(values, how, n, p, kept.s3, m, b, to);
-        to += n;
-        i += 1;
+    for i in 0..rows {
+        let row = kept.row(k, i);
+        fold_row::<F>(cells, n, row, m, gathered, start + i * n);
     }
 }
 
 // All rows of what is gathered, one after another.
-fn fold_blocks_values(
+fn fold_blocks<F: Fold>(
+    cells: &mut [F::Cell],
+    k: Row,
+    kept: View,
+    g: Row,
+    gathered: View,
+    rows: usize,
+    blocks: usize,
+    start: usize,
+)
+    requires { (rows ≡ rows_of k) × (blocks ≡ rows_of g) × (reach k kept + reach g gathered < start) × (start + rows * k.r3 ≤ length cells.old) × AllIn F.Fits F.blank cells.old kept.base (reach k kept + reach g gathered + 1) × Room F.HasRoom F.blank cells.old start (rows * k.r3) (blocks * g.r3) }
+    ensures { cells.new ≡ taken F.op F.blank cells.old start (rows * k.r3) (source k kept g gathered) (blocks * g.r3) }
+{
+    for j in 0..blocks {
+        fold_rows::<F>(cells, k, kept, g.r3, gathered.row(g, j), rows, start);
+    }
+}
+
+// A sum begins with 0, a maximum with its first number.
+fn fold_values(
     values: &mut [i64],
     how: usize,
     k: Row,
@@ -178,164 +159,16 @@ fn fold_blocks_values(
     blocks: usize,
     start: usize,
 )
-    requires { (rows ≡ rows_of k) × (blocks ≡ rows_of g) × (reach k kept + reach g gathered < start) × (start + rows * k.r3 ≤ length values.old) × SmallIn values.old kept.base (reach k kept + reach g gathered + 1) × Room values.old start (rows * k.r3) (blocks * g.r3) }
-    ensures { values.new ≡ taken (combine_of how) (pos 0) values.old start (rows * k.r3) (λ (e i : ℕ). place k kept e + place g gathered i) (blocks * g.r3) }
-{
-    let mut j = 0;
-    while j < blocks {
-        let offset = views::row_place(g, gathered, j);
-        fold_rows_values(values, how, k, kept, g.r3, gathered.s3, offset, rows, start);
-        j += 1;
-    }
-}
-
-// The smaller of two flags.
-fn smaller(x: u8, y: u8) -> u8
-    ensures { result ≡ min x y }
-{
-    if y < x { y } else { x }
-}
-
-// A run of n flags of one axis folded into acc.
-fn fold_run_flags(flags: &[u8], acc: u8, n: usize, p: usize, s: Stride) -> u8
-    requires { p + span n s < length flags.now }
-    ensures { result ≡ fold_from min acc (λ (i : ℕ). get_or flags.now (p + step n s i) 0) n }
-{
-    let mut r = acc;
-    let mut i = 0;
-    while i < n {
-        let k = p + views::step_at(n, s, i);
-        let x = flags[k];
-        r = smaller(r, x);
-        i += 1;
-    }
-    r
-}
-
-// The same, where one place after another is a loop of its own.
-fn run_flags(flags: &[u8], acc: u8, n: usize, p: usize, s: Stride) -> u8
-    requires { p + span n s < length flags.now }
-    ensures { result ≡ fold_from min acc (λ (i : ℕ). get_or flags.now (p + step n s i) 0) n }
-{
-    let one = Stride { up: 1, down: 0 };
-    if views::is_stride(s, 1, 0) {
-        return fold_run_flags(flags, acc, n, p, one);
-    }
-    fold_run_flags(flags, acc, n, p, s)
-}
-
-// Each flag of a row of n takes in a run of m.
-fn fold_runs_flags(flags: &mut [u8], n: usize, p: usize, a: Stride, m: usize, b: Stride, to: usize)
-    requires { (p + (span n a + span m b) < to) × (to + n ≤ length flags.old) }
-    ensures { flags.new ≡ taken min 0 flags.old to n (runs p n a m b) m }
-{
-    let mut c = 0;
-    while c < n {
-        let acc = flags[to + c];
-        let r = run_flags(flags, acc, m, p + views::step_at(n, a, c), b);
-        flags[to + c] = r;
-        c += 1;
-    }
-}
-
-// Each flag of a row of n takes in one.
-fn fold_cells_flags(flags: &mut [u8], n: usize, p: usize, a: Stride, to: usize)
-    requires { (p + span n a < to) × (to + n ≤ length flags.old) }
-    ensures { flags.new ≡ taken min 0 flags.old to n (λ (c i : ℕ). p + step n a c) 1 }
-{
-    let mut c = 0;
-    while c < n {
-        let k = p + views::step_at(n, a, c);
-        let x = flags[k];
-        let y = flags[to + c];
-        let r = smaller(y, x);
-        flags[to + c] = r;
-        c += 1;
-    }
-}
-
-// The same, where one place after another is a loop of its own.
-fn cells_flags(flags: &mut [u8], n: usize, p: usize, a: Stride, to: usize)
-    requires { (p + span n a < to) × (to + n ≤ length flags.old) }
-    ensures { flags.new ≡ taken min 0 flags.old to n (λ (c i : ℕ). p + step n a c) 1 }
-{
-    let one = Stride { up: 1, down: 0 };
-    if views::is_stride(a, 1, 0) {
-        fold_cells_flags(flags, n, p, one, to);
-        return;
-    }
-    fold_cells_flags(flags, n, p, a, to);
-}
-
-// A row of the result and a row of m of what is gathered: where m is 1, cell by cell.
-fn fold_row_flags(flags: &mut [u8], n: usize, p: usize, a: Stride, m: usize, b: Stride, to: usize)
-    requires { (p + (span n a + span m b) < to) × (to + n ≤ length flags.old) }
-    ensures { flags.new ≡ taken min 0 flags.old to n (runs p n a m b) m }
-{
-    if m == 1 {
-        cells_flags(flags, n, p, a, to);
-        return;
-    }
-    fold_runs_flags(flags, n, p, a, m, b, to);
-}
-
-// All rows of the result, and the row of what is gathered that begins at `offset`.
-fn fold_rows_flags(
-    flags: &mut [u8],
-    k: Row,
-    kept: View,
-    m: usize,
-    b: Stride,
-    offset: usize,
-    rows: usize,
-    start: usize,
-)
-    requires { (rows ≡ rows_of k) × (reach k kept + (offset + span m b) < start) × (start + rows * k.r3 ≤ length flags.old) }
-    ensures { flags.new ≡ taken min 0 flags.old start (rows * k.r3) (λ (e i : ℕ). place k kept e + (offset + step m b i)) m }
-{
-    let n = k.r3;
-    let mut i = 0;
-    let mut to = start;
-    while i < rows {
-        let p = views::row_place(k, kept, i) + offset;
-        fold_row_flags(flags, n, p, kept.s3, m, b, to);
-        to += n;
-        i += 1;
-    }
-}
-
-// All rows of what is gathered, one after another.
-fn fold_blocks_flags(
-    flags: &mut [u8],
-    k: Row,
-    kept: View,
-    g: Row,
-    gathered: View,
-    rows: usize,
-    blocks: usize,
-    start: usize,
-)
-    requires { (rows ≡ rows_of k) × (blocks ≡ rows_of g) × (reach k kept + reach g gathered < start) × (start + rows * k.r3 ≤ length flags.old) }
-    ensures { flags.new ≡ taken min 0 flags.old start (rows * k.r3) (λ (e i : ℕ). place k kept e + place g gathered i) (blocks * g.r3) }
-{
-    let mut i = 0;
-    while i < blocks {
-        let offset = views::row_place(g, gathered, i);
-        fold_rows_flags(flags, k, kept, g.r3, gathered.s3, offset, rows, start);
-        i += 1;
-    }
-}
-
-// What a sum and a maximum begin with.
-fn begin_values(values: &mut [i64], how: usize, k: Row, kept: View, rows: usize, start: usize)
-    requires { (rows ≡ rows_of k) × (reach k kept < start) × (start + rows * k.r3 ≤ length values.old) }
-    ensures { values.new ≡ store values.old start (cells_of k) (λ (e : ℕ). first how values.old (place k kept e)) }
+    requires { (rows ≡ rows_of k) × (blocks ≡ rows_of g) × (cells_of g ≤ 1048576) × (reach k kept + reach g gathered < start) × (start + rows * k.r3 ≤ length values.old) × SmallIn values.old kept.base (reach k kept + reach g gathered + 1) }
+    ensures { values.new ≡ store values.old start (cells_of k) (λ (e : ℕ). fold_from (combine_of how) (first how values.old (place k kept e)) (λ (i : ℕ). get_or values.old (source k kept g gathered e i) (pos 0)) (cells_of g)) }
 {
     if how == 0 {
-        moving::fill(values, rows * k.r3, start, 0);
+        moving::fill_values(values, rows * k.r3, start);
+        fold_blocks::<Sum>(values, k, kept, g, gathered, rows, blocks, start);
         return;
     }
-    moving::move_cells(values, k, kept, rows, start);
+    moving::move_values(values, k, kept, rows, start);
+    fold_blocks::<Larger>(values, k, kept, g, gathered, rows, blocks, start);
 }
 
 // REDUCE.
@@ -355,9 +188,8 @@ pub fn reduce(
     ensures values_after { values.new ≡ reduced_values how values.old flags.old k kept g gathered start }
     ensures flags_after { flags.new ≡ reduced_flags flags.old k kept g gathered start }
 {
-    moving::move_cells(flags, k, kept, rows, start);
-    fold_blocks_flags(flags, k, kept, g, gathered, rows, blocks, start);
-    begin_values(values, how, k, kept, rows, start);
-    fold_blocks_values(values, how, k, kept, g, gathered, rows, blocks, start);
+    moving::move_flags(flags, k, kept, rows, start);
+    fold_blocks::<Smaller>(flags, k, kept, g, gathered, rows, blocks, start);
+    fold_values(values, how, k, kept, g, gathered, rows, blocks, start);
     validity::clear_own(values, flags, rows * k.r3, start);
 }

@@ -1,0 +1,44 @@
+use Prim.Native.Nat.{◌+◌, ◌*◌, ◌≤◌}
+use mathlib.Core.Path.{◌≡◌}
+use mathlib.Core.List.{List}
+use native.Mathlib.Omega.{arith}
+use borrow.Author.Tests.{ne_eqb}
+use Prim.Native.Nat.{ℕ}
+use lib.IntN.{ℤ, pos}
+use lib.ListN.{length}
+use Rattle.laws.specs.Store.{store}
+use Rattle.laws.proofs.Machine.{Small}
+use Rattle.laws.proofs.Store.{store_hit, length_store}
+use Rattle.reducing.specs.Gathering.{Room}
+use Rattle.reducing.specs.Sums.{SumRoom}
+use Rattle.reducing.proofs.Grids.{whole}
+use Rattle.reducing.proofs.Rooms.{fit_kept}
+use Rattle.reducing.proofs.fold_values.Goals as goal
+
+-- a sum that begins with 0 has room
+begin_room : (l m : List ℤ) (start n k : ℕ) → start + n ≤ length l → m ≡ store l start n (λ (e : ℕ). pos 0) → k ≤ 1048576 → Room SumRoom (pos 0) m start n k
+begin_room l m start n k fits e few c h = rw (store_hit l m start n _ c (pos 0) e h fits) (omega arith)
+
+pub fold_blocks-requires : goal.fold_blocks-requires
+fold_blocks-requires c =
+    let a = c.args in
+    let e = c.fill_values.ensures in (
+      c.requires.0,
+      c.requires.1,
+      c.requires.3,
+      rw (e, length_store) c.requires.4,
+      fit_kept (pos 0) a.values.now c.fill_values.new.values a.start (a.rows * a.k.r3) _ e Small c.requires.5 (omega (arith, c.requires.3)) (omega arith) (omega arith),
+      begin_room _ _ a.start (a.rows * a.k.r3) (a.blocks * a.g.r3) c.requires.4 e (rw (← c.requires.1) at c.requires.2),
+    )
+
+pub returns-then-how-eq0 : goal.returns-then-how-eq0
+returns-then-how-eq0 c =
+    let a = c.args in
+    rw c.if-how-eq0.true
+    (whole _ _ _ _ _ a.k a.kept a.start a.g a.gathered a.rows a.blocks _ c.requires.3 c.requires.0 c.requires.1 c.requires.4 (rw c.requires.0 at c.fill_values.ensures) c.fold_blocks.ensures)
+
+pub returns : goal.returns
+returns c =
+    let a = c.args in
+    rw (ne_eqb a.how 0 c.if-how-eq0.false)
+    (whole _ _ _ _ _ a.k a.kept a.start a.g a.gathered a.rows a.blocks _ c.requires.3 c.requires.0 c.requires.1 c.requires.4 c.move_values.ensures c.fold_blocks-2.ensures)
