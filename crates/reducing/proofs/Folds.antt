@@ -6,13 +6,12 @@ use native.Mathlib.Omega.{arith}
 use native.Mathlib.Numerals.{add-one}
 use native.Mathlib.Nat.{add-zero, add-suc, add_assoc, add-mul, one-mul, zero-mul}
 use lib.ListN.{length, get_or}
-use lib.Seq.{set-get_or}
 use Rattle.std.proofs.lemmas.List.{get_or_default}
 use Rattle.laws.specs.Store.{store}
 use Rattle.laws.proofs.Store.{store_block, store_again, store_read, store_ahead, store_hit, store_same, store_own}
 use Rattle.views.specs.declared.Line.{Line}
 use Rattle.views.specs.declared.Stride.{Stride}
-use Rattle.views.specs.Views.{step, span}
+use Rattle.views.specs.Views.{step}
 use Rattle.views.proofs.Steps.{step_le}
 use Rattle.reducing.specs.Folding.{fold_from}
 use Rattle.reducing.specs.Gathering.{along, far, taken, runs}

@@ -8,7 +8,7 @@ use Rattle.laws.specs.Store.{store}
 use Rattle.plan.specs.declared.Row.{Row}
 use Rattle.views.specs.declared.Line.{Line}
 use Rattle.views.specs.declared.View.{View}
-use Rattle.views.specs.Views.{step, span, rows_of, cells_of, row_place, place, row_reach, reach}
+use Rattle.views.specs.Views.{step, rows_of, cells_of, row_place, place, row_reach, reach}
 use Rattle.views.proofs.RowPlaces.{place_row, row_below, cell_below, base_place}
 use Rattle.views.proofs.Steps.{step_le, place_le}
 use Rattle.reducing.specs.Folding.{fold_from, source}

@@ -8,7 +8,6 @@ use lib.ListN.{length, get_or}
 use Rattle.laws.specs.Store.{store}
 use Rattle.laws.proofs.Store.{store_read, store_ahead, store_hit}
 use Rattle.views.specs.declared.Line.{Line}
-use Rattle.views.specs.Views.{step, span}
 use Rattle.views.proofs.Steps.{step_le}
 use Rattle.views.proofs.RowPlaces.{block_fits}
 use Rattle.reducing.specs.Folding.{fold_from}

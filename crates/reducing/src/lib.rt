@@ -39,7 +39,7 @@ fn fold_run<F: Fold>(cells: &[F::Cell], acc: F::Cell, n: usize, line: Line) -> F
 }
 
 // The line that begins further on.
-fn moved(line: Line, by: usize) -> Line
+fn shifted(line: Line, by: usize) -> Line
     requires { line.place + by < 2 ^ 64 }
     ensures { result ≡ record { place = line.place + by; stride = line.stride } }
 {
@@ -62,7 +62,7 @@ fn fold_runs<F: Fold>(
     ensures { cells.new ≡ taken F.op F.blank cells.old to n (runs n kept m gathered) m }
 {
     for c in 0..n {
-        let run = moved(gathered, kept.at(n, c));
+        let run = shifted(gathered, kept.at(n, c));
         cells[to + c] = fold_run::<F>(cells, cells[to + c], m, run);
     }
 }
@@ -102,7 +102,7 @@ fn fold_row<F: Fold>(
     ensures { cells.new ≡ taken F.op F.blank cells.old to n (runs n kept m gathered) m }
 {
     if m == 1 {
-        take_each::<F>(cells, n, moved(kept, gathered.place), to);
+        take_each::<F>(cells, n, shifted(kept, gathered.place), to);
         return;
     }
     fold_runs::<F>(cells, n, kept, m, gathered, to);

@@ -1,5 +1,4 @@
 use native.Mathlib.Omega.{arith}
-use Rattle.views.proofs.Steps.{step_le}
 use Rattle.reducing.proofs.Folds.{cell_read, fold_none, fold_turn}
 use Rattle.reducing.proofs.Rooms.{run_room}
 use Rattle.reducing.proofs.fold_along.Goals as goal

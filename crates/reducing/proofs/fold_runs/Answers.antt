@@ -3,7 +3,6 @@ use mathlib.Core.Path.{refl}
 use native.Mathlib.Omega.{arith}
 use Rattle.std.proofs.lemmas.List.{get_or_default}
 use Rattle.laws.proofs.Store.{store_none, store_step}
-use Rattle.views.proofs.Steps.{step_le}
 use Rattle.reducing.proofs.Folds.{run_turn}
 use Rattle.reducing.proofs.Rooms.{fit_kept, room_at}
 use borrow.Author.Rules.{rules}
@@ -18,8 +17,7 @@ fold_run-requires g c =
     let fold = g.F.Fold in
     let v = c.loop-c.invariant in
     let at = c.at.ensures in
-    rw c.moved-run.ensures
-    (
+    rw c.shifted-run.ensures (
       omega (arith, at.1, v.0, c.requires.0, c.requires.1),
       fit_kept fold.blank a.cells.now c.loop-c.cells a.to c.loop-c.c _ v.1 fold.Fits c.requires.2 (omega (arith, c.requires.0)) (omega (arith, at.0)) (omega (arith, at.1)),
       rw (get_or_default c.loop-c.cells (c.args.to + c.loop-c.c) _ fold.blank (omega (arith, v.0, c.requires.1, c.loop-c-test.true)))
@@ -34,5 +32,5 @@ loop-c-preserved g c =
       search rules,
       store_step _ _ _ _ _ _ v.1
           (run_turn fold.op fold.blank a.cells.now c.loop-c.cells a.to c.loop-c.c a.n a.kept a.m a.gathered _ v.1 c.requires.0 c.loop-c-test.true c.at.ensures.0
-          (get_or_default c.loop-c.cells (c.args.to + c.loop-c.c) _ fold.blank (omega (arith, v.0, c.requires.1, c.loop-c-test.true))) (rw c.moved-run.ensures at c.fold_run.ensures)),
+          (get_or_default c.loop-c.cells (c.args.to + c.loop-c.c) _ fold.blank (omega (arith, v.0, c.requires.1, c.loop-c-test.true))) (rw c.shifted-run.ensures at c.fold_run.ensures)),
     )
