@@ -163,11 +163,11 @@ fn fold_values(
     ensures { values.new ≡ store values.old start (cells_of k) (λ (e : ℕ). fold_from (combine_of how) (first how values.old (place k kept e)) (λ (i : ℕ). get_or values.old (source k kept g gathered e i) (pos 0)) (cells_of g)) }
 {
     if how == 0 {
-        moving::fill_values(values, rows * k.r3, start);
+        moving::fill(values, rows * k.r3, start, 0);
         fold_blocks::<Sum>(values, k, kept, g, gathered, rows, blocks, start);
         return;
     }
-    moving::move_values(values, k, kept, rows, start);
+    moving::move_cells(values, k, kept, rows, start);
     fold_blocks::<Larger>(values, k, kept, g, gathered, rows, blocks, start);
 }
 
@@ -188,7 +188,7 @@ pub fn reduce(
     ensures values_after { values.new ≡ reduced_values how values.old flags.old k kept g gathered start }
     ensures flags_after { flags.new ≡ reduced_flags flags.old k kept g gathered start }
 {
-    moving::move_flags(flags, k, kept, rows, start);
+    moving::move_cells(flags, k, kept, rows, start);
     fold_blocks::<Smaller>(flags, k, kept, g, gathered, rows, blocks, start);
     fold_values(values, how, k, kept, g, gathered, rows, blocks, start);
     validity::clear_own(values, flags, rows * k.r3, start);

@@ -22,12 +22,12 @@ begin_room l m start n k fits e few c h = rw (store_hit l m start n _ c (pos 0) 
 pub fold_blocks-requires : goal.fold_blocks-requires
 fold_blocks-requires c =
     let a = c.args in
-    let e = c.fill_values.ensures in (
+    let e = c.fill.ensures in (
       c.requires.0,
       c.requires.1,
       c.requires.3,
       rw (e, length_store) c.requires.4,
-      fit_kept (pos 0) a.values.now c.fill_values.new.values a.start (a.rows * a.k.r3) _ e Small c.requires.5 (omega (arith, c.requires.3)) (omega arith) (omega arith),
+      fit_kept (pos 0) a.values.now c.fill.new.cells a.start (a.rows * a.k.r3) _ e Small c.requires.5 (omega (arith, c.requires.3)) (omega arith) (omega arith),
       begin_room _ _ a.start (a.rows * a.k.r3) (a.blocks * a.g.r3) c.requires.4 e (rw (← c.requires.1) at c.requires.2),
     )
 
@@ -35,10 +35,10 @@ pub returns-then-how-eq0 : goal.returns-then-how-eq0
 returns-then-how-eq0 c =
     let a = c.args in
     rw c.if-how-eq0.true
-    (whole _ _ _ _ _ a.k a.kept a.start a.g a.gathered a.rows a.blocks _ c.requires.3 c.requires.0 c.requires.1 c.requires.4 (rw c.requires.0 at c.fill_values.ensures) c.fold_blocks.ensures)
+    (whole _ _ _ _ _ a.k a.kept a.start a.g a.gathered a.rows a.blocks _ c.requires.3 c.requires.0 c.requires.1 c.requires.4 (rw c.requires.0 at c.fill.ensures) c.fold_blocks.ensures)
 
 pub returns : goal.returns
 returns c =
     let a = c.args in
     rw (ne_eqb a.how 0 c.if-how-eq0.false)
-    (whole _ _ _ _ _ a.k a.kept a.start a.g a.gathered a.rows a.blocks _ c.requires.3 c.requires.0 c.requires.1 c.requires.4 c.move_values.ensures c.fold_blocks-2.ensures)
+    (whole _ _ _ _ _ a.k a.kept a.start a.g a.gathered a.rows a.blocks _ c.requires.3 c.requires.0 c.requires.1 c.requires.4 (c.move_cells.ensures (pos 0)) c.fold_blocks-2.ensures)

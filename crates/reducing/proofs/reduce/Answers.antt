@@ -7,7 +7,7 @@ pub returns : goal.returns
 returns c =
     let a = c.args in
     let rows = c.requires.0 in
-    let flags = whole _ _ _ _ _ a.k a.kept a.start a.g a.gathered a.rows a.blocks _ c.requires.5 rows c.requires.1 c.requires.7 c.move_flags.ensures c.fold_blocks.ensures in record {
+    let flags = whole _ _ _ _ _ a.k a.kept a.start a.g a.gathered a.rows a.blocks _ c.requires.5 rows c.requires.1 c.requires.7 (c.move_cells.ensures 0) c.fold_blocks.ensures in record {
       values_after = both_cleared _ _ _ _ _ a.start _ _ (reduced_flag a.flags.now a.k a.kept a.g a.gathered) (rw rows at c.requires.6) (rw rows at c.requires.7) c.fold_values.ensures flags (rw rows at c.clear_own.ensures);
       flags_after = flags;
     }
