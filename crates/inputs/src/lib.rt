@@ -40,11 +40,9 @@ pub fn input_total(table: &[i64], records: [Record; 256], count: usize) -> usize
     ensures { (result ≡ length (input_limits table.now (nodes_of records count))) × (result ≡ input_start table.now (nodes_of records count) count) }
 {
     let mut total = 0;
-    let mut i = 0;
-    while i < count {
+    for i in 0..count {
         let x = plan::node_at(table, i);
         total += input_size(x.op, records[i]);
-        i += 1;
     }
     total
 }
@@ -56,12 +54,10 @@ pub fn starts(records: [Record; 256], count: usize) -> [usize; 256]
 {
     let mut starts = [0usize; 256];
     let mut total = 0;
-    let mut i = 0;
-    while i < count {
+    for i in 0..count {
         starts[i] = total;
         let r = records[i];
         total += shaping::count(r.extents);
-        i += 1;
     }
     starts
 }
@@ -112,12 +108,10 @@ fn values_good(values: &[i64], flags: &[u8], from: usize, n: usize, low: i64, hi
     ensures { result ≡ true → test_part (between low high) values.now flags.now from n ≡ accepted tt }
 {
     let mut found = 0u64;
-    let mut i = 0;
-    while i < n {
+    for i in 0..n {
         let p = from + i;
         let here = miss(flags[p], values[p], low, high);
         found = found | here;
-        i += 1;
     }
     found < 9223372036854775808
 }
@@ -141,8 +135,7 @@ fn first_fault(values: &[i64], flags: &[u8], from: usize, n: usize, low: i64, hi
     requires { (from + n ≤ length values.now) × (from + n ≤ length flags.now) }
     ensures { (test_part (between low high) values.now flags.now from n ≡ scanned result.number result.place) × (among result.number (0 ∷ 15 ∷ 16 ∷ []) ≡ true) }
 {
-    let mut i = 0;
-    while i < n {
+    for i in 0..n {
         let p = from + i;
         let number = fault(flags[p], values[p], low, high);
         if number != 0 {
@@ -151,7 +144,6 @@ fn first_fault(values: &[i64], flags: &[u8], from: usize, n: usize, low: i64, hi
                 place: p as u64,
             };
         }
-        i += 1;
     }
     Finding {
         number: 0,
@@ -185,8 +177,7 @@ pub fn scan(
     ensures { (test_inputs (input_limits table.now (nodes_of records count)) values.now flags.now ≡ scanned result.number result.place) × (among result.number (0 ∷ 15 ∷ 16 ∷ []) ≡ true) }
 {
     let mut from = 0;
-    let mut i = 0;
-    while i < count {
+    for i in 0..count {
         let x = plan::node_at(table, i);
         let n = input_size(x.op, records[i]);
         let found = scan_param(values, flags, from, n, x.low, x.high);
@@ -194,7 +185,6 @@ pub fn scan(
             return found;
         }
         from += n;
-        i += 1;
     }
     Finding {
         number: 0,
@@ -221,12 +211,9 @@ pub fn param_values(
     requires { (from + n ≤ length given.now) × (from + n ≤ length known.now) × (to + n ≤ length values.old) }
     ensures { values.new ≡ store values.old to n (λ (j : ℕ). value_of (cell_in given.now known.now (from + j))) }
 {
-    let mut i = 0;
-    while i < n {
+    for i in 0..n {
         let p = from + i;
-        let value = known_value(known[p], given[p]);
-        values[to + i] = value;
-        i += 1;
+        values[to + i] = known_value(known[p], given[p]);
     }
 }
 
@@ -242,10 +229,8 @@ pub fn param_flags(flags: &mut [u8], known: &[u8], from: usize, n: usize, to: us
     requires { (from + n ≤ length known.now) × (to + n ≤ length flags.old) }
     ensures { flags.new ≡ store flags.old to n (λ (j : ℕ). (if nat_eq (slice_index known.now (from + j)) 1 then 1 else 0)) }
 {
-    let mut i = 0;
-    while i < n {
+    for i in 0..n {
         flags[to + i] = known_flag(known[from + i]);
-        i += 1;
     }
 }
 
@@ -262,10 +247,8 @@ fn few_gaps(flags: &[u8], from: usize, n: usize) -> u8
     ensures { result ≡ gaps_from flags.now from n }
 {
     let mut gaps = 0;
-    let mut i = 0;
-    while i < n {
+    for i in 0..n {
         gaps += one_if_gap(flags[from + i]);
-        i += 1;
     }
     gaps
 }
@@ -277,7 +260,7 @@ fn a_few(n: usize) -> usize
     if n < 192 { n } else { 192 }
 }
 
-// The gaps among n flags.
+// The gaps among n flags. A loop by hand: slices have no `chunks` here.
 pub fn count_gaps(flags: &[u8], from: usize, n: usize) -> usize
     requires { from + n ≤ length flags.now }
     ensures { result ≡ gaps_from flags.now from n }

@@ -7,7 +7,7 @@ use Rattle.inputs.proofs.Scans.{part_none, part_more, part_stops}
 use Rattle.inputs.proofs.first_fault.Goals as goal
 
 pub loop-i-init : goal.loop-i-init
-loop-i-init c = (search rules, part_none (between (read_back c.args.low) (read_back c.args.high)) c.args.values.now c.args.flags.now c.args.from)
+loop-i-init c = part_none (between (read_back c.args.low) (read_back c.args.high)) c.args.values.now c.args.flags.now c.args.from
 
 pub returns-then-number-ne0 : goal.returns-then-number-ne0
 returns-then-number-ne0 c =
@@ -16,7 +16,7 @@ returns-then-number-ne0 c =
     let p = a.from + c.loop-i.i in
     let number = c.fault-number.result in
     let here = test_read (get_or a.values.now p (pos 0)) (get_or a.flags.now p 0) (search rules) limits p (c.fault-number.ensures.0 p) in
-    let stops = part_stops limits a.values.now a.flags.now a.from c.loop-i.i number p c.loop-i.invariant.1 here a.n c.loop-i-test.true c.if-number-ne0.true in
+    let stops = part_stops limits a.values.now a.flags.now a.from c.loop-i.i number p c.loop-i.invariant here a.n c.loop-i-test.true c.if-number-ne0.true in
     (limits_read a.low a.high a.values.now a.flags.now a.from a.n c.ranges.low c.ranges.high stops, c.fault-number.ensures.1)
 
 pub loop-i-preserved : goal.loop-i-preserved
@@ -26,11 +26,11 @@ loop-i-preserved c =
     let p = a.from + c.loop-i.i in
     let number = c.fault-number.result in
     let here = test_read (get_or a.values.now p (pos 0)) (get_or a.flags.now p 0) (search rules) limits p (c.fault-number.ensures.0 p) in
-    (search rules, part_more limits a.values.now a.flags.now a.from c.loop-i.i number p c.loop-i.invariant.1 here c.if-number-ne0.false)
+    part_more limits a.values.now a.flags.now a.from c.loop-i.i number p c.loop-i.invariant here c.if-number-ne0.false
 
 pub returns : goal.returns
 unfolding among
 returns c =
     let a = c.args in
-    let e : c.loop-i.i ≡ a.n = omega (arith, c.loop-i.invariant.0, c.loop-i-test.false) in
-    (limits_read a.low a.high a.values.now a.flags.now a.from a.n c.ranges.low c.ranges.high (rw e at c.loop-i.invariant.1), refl)
+    let e : c.loop-i.i ≡ a.n = omega arith in
+    (limits_read a.low a.high a.values.now a.flags.now a.from a.n c.ranges.low c.ranges.high (rw e at c.loop-i.invariant), refl)

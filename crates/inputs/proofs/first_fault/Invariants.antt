@@ -1,11 +1,8 @@
-use Rattle.std.proofs.Common.{◌≡◌, ◌-◌, ◌≤◌}
+use Rattle.std.proofs.Common.{◌≡◌}
 use Rattle.plan.specs.Types.{between}
 use Rattle.plan.specs.Answers.{accepted}
 use Rattle.inputs.specs.Nodes.{test_part}
 use Rattle.inputs.proofs.first_fault.Given as goal
 
 abbrev pub invariant-loop-i : goal.invariant-loop-i
-invariant-loop-i l = (l.i ≤ l.n) × (test_part (between l.low l.high) l.values l.flags l.from l.i ≡ accepted tt)
-
-abbrev pub decreases-loop-i : goal.decreases-loop-i
-decreases-loop-i l = l.n - l.i
+invariant-loop-i l = test_part (between l.low l.high) l.values l.flags l.from l.i ≡ accepted tt
