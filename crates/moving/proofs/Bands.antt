@@ -10,7 +10,7 @@ use borrow.Author.Tests.{le-leb, lt-leb, lt-ltb, le-ltb}
 use lib.Arith.{digits_div, digits_mod}
 use lib.ListN.{get_or}
 use Rattle.laws.specs.Store.{store}
-use Rattle.laws.proofs.Store.{store_append, store_same, store_read, store_block}
+use Rattle.laws.proofs.Store.{store_same, store_read, store_after_store, store_block}
 use Rattle.plan.specs.declared.Row.{Row}
 use Rattle.views.specs.Views.{stride_of, step, span, cells_of}
 use Rattle.views.specs.Strides.{strides_of}
@@ -29,11 +29,6 @@ unfolding span
 one_span n p to h q = rw mul-one (omega arith)
 
 -- ---- one row
-
--- what is written after a cells, as the next b of them
-store_then : {A : Type 0} (l m end : List A) (s a b : ℕ) (f g : ℕ → A) → m ≡ store l s a f → end ≡ store m (s + a) b g
-    → ((c : ℕ) → c < b → g c ≡ f (a + c)) → end ≡ store l s (a + b) f
-store_then l m end s a b f g e e' h = e' ∙ store_same m (s + a) b g (λ (c : ℕ). f (a + c)) h ∙ rw (e, store_append)
 
 module _ {A : Type 0} (d : A) (l : List A) where
   module _ (before n p : ℕ) where
@@ -63,9 +58,9 @@ module _ {A : Type 0} (d : A) (l : List A) where
     band_laid to width {m} {k} {end} wide near e1 e2 e3 =
         let f : ℕ → A = band_cell d l before n p in
         let first : m ≡ store l to before f = e1 ∙ store_same l to before (λ (c : ℕ). d) f (λ c h. sym (gap_before c h)) in
-        let middle = store_then l m k to before n f _ first e2 (λ c h. rw (one_step n c, store_read l m to before f (p + c) d first (omega arith)) (sym (cell_between c h))) in
+        let middle = store_after_store l m k to before n f _ first e2 (λ c h. rw (one_step n c, store_read l m to before f (p + c) d first (omega arith)) (sym (cell_between c h))) in
         let at : to + before + n ≡ to + (before + n) = omega arith in
-        let last = store_then l k end to (before + n) (width - before - n) f (λ (c : ℕ). d) middle (rw at at e3) (λ c h. sym (gap_after c)) in
+        let last = store_after_store l k end to (before + n) (width - before - n) f (λ (c : ℕ). d) middle (rw at at e3) (λ c h. sym (gap_after c)) in
         let all : before + n + (width - before - n) ≡ width = omega arith in
         rw all at last
 

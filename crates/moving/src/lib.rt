@@ -10,7 +10,8 @@ ghost use Rattle.moving.specs.Moved.{moved, padded, band_cell, row_cell, Laid};
 use plan::Row;
 use views::{Line, Stride, View};
 
-// n cells of a line, one after another.
+// n cells of a line, one after another. By copy_from_slice it would call memmove, and docs/FORMAT.md allows memcpy and memset alone;
+// copy_within takes half as long again on rows of 16.
 fn copy<T: Copy>(cells: &mut [T], n: usize, from: Line, to: usize)
     requires { (from.place + span n from.stride < to) × (to + n ≤ length cells.old) }
     ensures { (d : T) → cells.new ≡ store cells.old to n (λ (j : ℕ). get_or cells.old (from.place + step n from.stride j) d) }
@@ -20,14 +21,17 @@ fn copy<T: Copy>(cells: &mut [T], n: usize, from: Line, to: usize)
     }
 }
 
-// The same, where one place after another, or one place for all, is a loop of its own.
+// The same, where one place after another is a loop of its own, and one place for all is a fill.
 fn copy_row<T: Copy>(cells: &mut [T], n: usize, from: Line, to: usize)
     requires { (from.place + span n from.stride < to) × (to + n ≤ length cells.old) }
     ensures { (d : T) → cells.new ≡ store cells.old to n (λ (j : ℕ). get_or cells.old (from.place + step n from.stride j) d) }
 {
     match from.stride {
         Stride { up: 1, down: 0 } => copy(cells, n, Line::unit(from.place), to),
-        Stride { up: 0, down: 0 } => copy(cells, n, Line::still(from.place), to),
+        Stride { up: 0, down: 0 } => {
+            let cell = cells[from.place];
+            fill(cells, n, to, cell);
+        }
         _ => copy(cells, n, from, to),
     }
 }
@@ -79,7 +83,7 @@ pub fn row_start(r: Row, o: Row, s: Row, base: usize, i: usize) -> usize
     base + (p0 + (p1 + p2))
 }
 
-// n cells that are all the same.
+// n cells that are all the same. A slice's fill asks what a clone of the cell is, which T: Copy does not say.
 pub fn fill<T: Copy>(cells: &mut [T], n: usize, to: usize, cell: T)
     requires { to + n ≤ length cells.old }
     ensures { cells.new ≡ store cells.old to n (λ (j : ℕ). cell) }
