@@ -1,44 +1,42 @@
 -- The text of a whole plan.
 use Prim.Native.Nat.{ℕ, ◌*◌, ◌-◌, ◌≤◌, ◌<◌}
-use mathlib.Core.Path.{◌≡◌, refl, ◌∙◌}
-use mathlib.Core.List.{List}
+use mathlib.Core.Path.{◌≡◌, refl}
+use mathlib.Core.List.{List, []}
 use native.Mathlib.Omega.{arith}
-use borrow.Author.Tests.{le-leb, lt-leb, eq-eqb, ne_eqb}
+use borrow.Author.Tests.{le-leb, lt-leb}
 use lib.IntN.{ℤ}
 use lib.ListN.{length, take}
 use lib.Seq.{sets}
 use Rattle.plan.specs.Words.{node_count}
+use Rattle.plan.specs.declared.faults.Refusal.{Refusal as Refused}
 use Rattle.plan.specs.Answers.{accepted, refuse}
+use Rattle.plan.specs.Coded.{fault_number}
 use Rattle.codec.specs.declared.Plan.{Plan}
 use Rattle.codec.specs.declared.Plan.TheVariants.{Nodes, Stop}
 use Rattle.codec.specs.Plans.{unpack}
 use Rattle.codec.specs.Steps.{plan_of, Stands}
 use Rattle.verifier.specs.declared.Derivation.{Derivation}
 use Rattle.verifier.specs.Check.{verdict, unpack_check}
-use Rattle.verifier.specs.Verdicts.{records_of}
+use Rattle.verifier.specs.Verdicts.{records_of, Accepts, Breaks}
 use Rattle.verifier.specs.Listing.{text_of, listing}
 use Rattle.verifier.proofs.Accepted.{accepted_meets}
-use Rattle.verifier.specs.Verdicts.{Ends}
 use Rattle.verifier.proofs.Ending.{counted}
 use Rattle.verifier.proofs.Packed.{stop_is, words_are}
 use Rattle.laws.specs.Pieces.{Writes}
 use Rattle.listing.specs.Text.{checked_of, text_with}
 
 -- a table that is refused, and one that is accepted
-module _ (t : List ℤ) {v : Derivation} (d : Ends t v) where
-  pub refused_text : (v.number ≡ 0 → ⊥) → text_of (refuse v.number v.place) ≡ text_of (checked_of t)
-  refused_text z = rw (d.is_verdict, ne_eqb v.number 0 z) refl
+module _ (t : List ℤ) where
+  pub refused_text : {e : Refused} → Breaks (verdict t) 256 e → text_of (refuse (fault_number e.fault) e.place) ≡ text_of (checked_of t)
+  refused_text b = rw b.is_check refl
 
-  module _ (z : v.number ≡ 0) where
-    met : verdict t ≡ accepted (records_of v)
-    met = d.is_verdict ∙ rw (eq-eqb v.number 0 z) refl
+  module _ {d : Derivation} (a : Accepts (verdict t) 256 d) where
+    pub accepted_text : text_of (accepted (record { table = t; records = records_of d })) ≡ text_of (checked_of t)
+    accepted_text = rw a.is_check refl
 
-    pub accepted_text : text_of (accepted (record { table = t; records = records_of v })) ≡ text_of (checked_of t)
-    accepted_text = rw met refl
-
-    pub in_table : 17 * v.count ≤ length t
+    pub in_table : 17 * d.count ≤ length t
     unfolding node_count
-    in_table = omega (arith, counted t 0 d, (accepted_meets t (records_of v) met).nodes.as_many)
+    in_table = omega (arith, counted t [] a, (accepted_meets t (records_of d) a.is_check).nodes.as_many)
 
 -- a plan that cannot be read, and one that was read into a table
 module _ (s : List ℕ) {r : Plan} (q : r ≡ plan_of (unpack s 4352)) where

@@ -192,12 +192,13 @@ impl Writer<'_> {
         requires { self.old.at + text_room ≤ length self.old.text.now }
         ensures { Puts (text_of (checked_of table.now)) text_room self.old self.new }
     {
-        let r = verifier::verdict(table);
-        if r.number != 0 {
-            return self.refusal(r.number as u64, r.place as u64);
+        match verifier::verdict(table) {
+            Err(broken) => {
+                let answer = plan::Answer::from(Err(broken));
+                self.refusal(answer.number, answer.place);
+            }
+            Ok(derivation) => self.accepted(table, derivation.records, derivation.count),
         }
-        let records = r.records;
-        self.accepted(table, records, r.count);
     }
 
     // The text of a packed plan.

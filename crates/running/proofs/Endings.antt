@@ -13,7 +13,7 @@ use Rattle.plan.specs.Answers.{Outcome, accepted, refuse}
 use Rattle.verifier.specs.declared.Derivation.{Derivation}
 use Rattle.rules.specs.Rules.{Derived, no_source}
 use Rattle.verifier.specs.Check.{count_of, total_of, verdict}
-use Rattle.verifier.specs.Verdicts.{Ends}
+use Rattle.verifier.specs.Verdicts.{Accepts}
 use Rattle.cells.specs.Cells.{Cell, Field}
 use Rattle.runner.specs.Inputs.{input_limits, input_cells, test_inputs}
 use Rattle.runner.specs.Run.{no_field, node_field, fields_to, fields_of, run_accepted, run, run_answer, values_after, flags_after, value_of, flag_of, gap_count}
@@ -32,12 +32,9 @@ pub refusal_ends : {o : Outcome (List Field)} {number place : ℕ} {a : Answer} 
 refusal_ends vs fs e h = (rw e h, rw e refl, rw e refl)
 
 -- 1 to 12
-module _ (t : List ℤ) {r : Derivation} (d : Ends t r) where
-  pub check_breaks : (r.number ≡ 0 → ⊥) → verdict t ≡ refuse r.number r.place
-  check_breaks z = d.is_verdict ∙ rw (ne_eqb r.number 0 z) refl
-
-  pub check_accepts : r.number ≡ 0 → Checked t r.records r.count
-  check_accepts z = record { few = d.few; long = d.long; accepts = d.is_verdict ∙ rw (eq-eqb r.number 0 z) refl }
+module _ (t : List ℤ) where
+  pub check_accepts : {d : Derivation} → Accepts (verdict t) 256 d → Checked t d.records d.count
+  check_accepts a = record { few = a.few; long = a.long; accepts = a.is_check }
 
 pub breaks : (t values : List ℤ) (flags : List ℕ) (valueRoom flagRoom : ℕ) {number place : ℕ} → verdict t ≡ refuse number place → run t values flags valueRoom flagRoom ≡ refuse number place
 unfolding run

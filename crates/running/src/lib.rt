@@ -146,12 +146,10 @@ pub fn run(
 ) -> plan::Answer
     ensures { (result ≡ run_answer (run table.now values.now flags.now (length out_values.old) (length out_flags.old))) × (out_values.new ≡ values_after (run table.now values.now flags.now (length out_values.old) (length out_flags.old)) out_values.old) × (out_flags.new ≡ flags_after (run table.now values.now flags.now (length out_values.old) (length out_flags.old)) out_flags.old) }
 {
-    let r = verifier::verdict(table);
-    if r.number != 0 {
-        return plan::refused(r.number as u64, r.place as u64);
+    match verifier::verdict(table) {
+        Err(broken) => plan::Answer::from(Err(broken)),
+        Ok(d) => run_accepted(
+            table, d.records, d.count, d.total, values, flags, out_values, out_flags,
+        ),
     }
-    let records = r.records;
-    run_accepted(
-        table, records, r.count, r.total, values, flags, out_values, out_flags,
-    )
 }

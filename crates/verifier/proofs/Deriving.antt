@@ -5,7 +5,7 @@ use mathlib.Core.Bool.{Bool, true, false, cond}
 use mathlib.Core.List.{List, [], ◌∷◌, ◌++◌, map, map-append}
 use native.Mathlib.Omega.{arith}
 use native.Mathlib.Numerals.{add-one}
-use borrow.Author.Tests.{leb-true, ne_eqb}
+use borrow.Author.Tests.{leb-true}
 use lib.IntN.{ℤ}
 use lib.Dec.{eqb}
 use lib.ListN.{length, get_or, set, take, length-set, length-map}
@@ -16,25 +16,27 @@ use Rattle.laws.proofs.Booleans.{bool_cases, and_true}
 use Rattle.laws.proofs.Lists.{get_or_map, take_whole, sum_append}
 use Rattle.plan.specs.declared.Node.{Node}
 use Rattle.plan.specs.declared.NodeNumber.{NodeNumber}
+use Rattle.plan.specs.declared.faults.Fault.{Fault}
+use Rattle.plan.specs.declared.faults.Refusal.{Refusal as Refused}
 use Rattle.plan.specs.Operations.{masks}
 use Rattle.plan.specs.Words.{node_at, over_params, params_before, reads}
 use Rattle.plan.specs.Answers.{Outcome, accepted, refuse, in_turn, AllHold, FirstFailing}
+use Rattle.plan.specs.Coded.{fault_number}
 use Rattle.plan.proofs.Outcomes.{first_front, first_back, all_both, order_fails, order_holds, turn_more, turn_stays}
 use Rattle.shapes.specs.Rules.{element_limit, shapes_agree, result_extents}
 use Rattle.rules.specs.declared.Record.{Record}
-use Rattle.rules.specs.declared.Judged.TheVariants.{Meets, Breaks}
+use Rattle.rules.specs.declared.Judged.TheVariants.{Meets, Breaks as Misses}
 use Rattle.rules.specs.Rules.{Derived, no_source, source_of, derived_of, shape_right}
-use Rattle.verifier.specs.declared.Derivation.{Derivation}
 use Rattle.verifier.specs.Check.{first, second, third, derive_node, node_rules, check_node, check_to, count_of, total_of}
 use Rattle.rules.specs.Code.{Masked, view_of, early_rules_of, shape_rules_of, value_rules_of, Judges, Early}
-use Rattle.verifier.specs.Verdicts.{Derives}
+use Rattle.verifier.specs.Verdicts.{Accepts, Breaks}
 use Rattle.verifier.proofs.Accepted.{checked_meets}
-use Rattle.verifier.proofs.Numbers.{InRange, number_of}
+use Rattle.verifier.proofs.Numbers.{OfNode, number_of}
 use Rattle.verifier.proofs.Nodes.{few_elements, source_has, sources_before}
 
 -- the check of n nodes ends with this number at node i
 pub record Stops (t : List ℤ) (n number i : ℕ) : Type 0 where
-  pub range : InRange number
+  pub range : OfNode number
   pub place : i < n
   pub refuses : check_to t n ≡ refuse number i
 
@@ -52,6 +54,10 @@ total_snoc ds d = ap sum (map-append count_of ds (d ∷ [])) ∙ sum_append (map
 pub so_far_none : (t : List ℤ) (ds : List Record) → length ds ≡ 256 → SoFar t 0 ds 0 0
 unfolding in_turn over_params total_of sum
 so_far_none t ds l = record { size = l; checked = refl; turn = refl; summed = refl }
+
+-- what rules 5 to 11 say of a number
+pub late_number : (x : Node) (params : ℕ) (a b c : Derived) (number : ℕ) → Judges x params a b c (Misses number) → OfNode number
+late_number x params a b c number f = number_of (shape_rules_of x params a b c ++ value_rules_of x a b c) number refl f
 
 module _ (t : List ℤ) (i : ℕ) (ds : List Record) (params total : ℕ) (so : SoFar t i ds params total) (small : i ≤ 256) where
   abbrev earlier : List Derived
@@ -85,7 +91,7 @@ module _ (t : List ℤ) (i : ℕ) (ds : List Record) (params total : ℕ) (so : 
   -- ---- a refusal
 
   module _ (n : ℕ) (l : i < n) where
-    stop : (number : ℕ) → InRange number → FirstFailing (node_rules t i (map view_of (take i ds))) number → Stops t n number i
+    stop : (number : ℕ) → OfNode number → FirstFailing (node_rules t i (map view_of (take i ds))) number → Stops t n number i
     unfolding check_node
     stop number range f =
         record {
@@ -96,9 +102,12 @@ module _ (t : List ℤ) (i : ℕ) (ds : List Record) (params total : ℕ) (so : 
               (turn_more (check_node t) [] i so.checked ∙ order_fails (node_rules t i earlier) i (accepted (earlier ++ derive_node t i earlier ∷ [])) f);
         }
 
+    pub early_number : (number : ℕ) → Early t i number → (number ≡ 0 → ⊥) → OfNode number
+    early_number number e z = number_of (early_rules_of t i) number refl (e.breaks z)
+
     pub stop_early : (number : ℕ) → Early t i number → (number ≡ 0 → ⊥) → Stops t n number i
     unfolding node_rules node_at
-    stop_early number e z = stop number (number_of (early_rules_of t i) number refl (e.breaks z)) (first_front _ (e.breaks z))
+    stop_early number e z = stop number (early_number number e z) (first_front _ (e.breaks z))
 
   -- ---- rules 5 to 11, with the sources that the code picked
 
@@ -112,9 +121,9 @@ module _ (t : List ℤ) (i : ℕ) (ds : List Record) (params total : ℕ) (so : 
     unfolding derive_node
     derived_is = rw (ea, eb, ec, q) refl
 
-    pub stop_late : (n : ℕ) → i < n → (number : ℕ) → Judges x params a b c (Breaks number) → Stops t n number i
+    pub stop_late : (n : ℕ) → i < n → (number : ℕ) → Judges x params a b c (Misses number) → Stops t n number i
     stop_late n l number f =
-        stop n l number (number_of (shape_rules_of x params a b c ++ value_rules_of x a b c) number refl f) (rw rules_are (first_back (early_rules_of t i) h f))
+        stop n l number (late_number x params a b c number f) (rw rules_are (first_back (early_rules_of t i) h f))
 
     module _ (r : Record) (n : ℕ) (l : i < 256) (j : Judges x params a b c (Meets r n)) where
       records_are : map view_of (take (suc i) (set ds i r)) ≡ map view_of (take i ds) ++ view_of r ∷ []
@@ -168,25 +177,13 @@ judged_few x params a b c r n j =
 
 -- ---- the ways out
 
-module _ (t : List ℤ) (n : ℕ) (ds : List Record) where
-  pub derives_stop : (number place : ℕ) {r : Derivation} → length ds ≡ 256 → Stops t n number place
-      → r ≡ record { number = number; place = place; count = 0; total = 0; records = ds } → Derives t n r
-  derives_stop number place long e q =
-      let z : number ≡ 0 → ⊥ = λ k. omega (arith, e.range) in
-      rw q
-      (record {
-        is_check = rw (ne_eqb number 0 z) e.refuses;
-        is_total = λ k. absurd (z k);
-        few = omega arith;
-        small = (e.range.1, omega (arith, e.place));
-        long = long;
-      })
+module _ (t : List ℤ) (n : ℕ) where
+  pub derives_stop : (number place : ℕ) {f : Fault} {e : Refused} → Stops t n number place → fault_number f ≡ number → e ≡ record { fault = f; place = place } → Breaks (check_to t n) n e
+  derives_stop number place s q is =
+      rw is (record { is_check = rw q s.refuses; small = (omega (arith, s.range, q), omega (arith, s.place)) })
 
-  pub derives_done : (i params total : ℕ) {r : Derivation} → SoFar t i ds params total → i ≤ n → n ≤ i
-      → r ≡ record { number = 0; place = 0; count = n; total = total; records = ds } → Derives t n r
-  derives_done i params total so p q is =
-      let e : i ≡ n = omega arith in
-      rw is (record { is_check = rw e at so.checked; is_total = λ k. rw e at so.summed; few = omega arith; small = (omega arith, omega arith); long = so.size })
+  pub derives_done : (ds : List Record) (params total : ℕ) → SoFar t n ds params total → Accepts (check_to t n) n (record { count = n; total = total; records = ds })
+  derives_done ds params total so = record { is_check = so.checked; is_total = so.summed; few = omega arith; long = so.size }
 
 -- small steps that the loop asks for
 pub small_of : {i n : ℕ} → i ≤ n → n ≤ 256 → i ≤ 256

@@ -17,16 +17,20 @@ use Rattle.verifier.specs.Meets.{Refuses, bad_length, bad_node, too_many}
 
 abbrev numbered : List Rule → Bool
 numbered [] = true
-numbered (rule number test ∷ rules) = (leb 1 number && leb number 12) && numbered rules
+numbered (rule number test ∷ rules) = (leb 2 number && leb number 11) && numbered rules
+
+-- 2 to 11: the rules of one node
+abbrev pub OfNode : ℕ → Type 0
+OfNode number = (2 ≤ number) × (number ≤ 11)
 
 abbrev pub InRange : ℕ → Type 0
 InRange number = (1 ≤ number) × (number ≤ 12)
 
-pub number_of : (rules : List Rule) (number : ℕ) → numbered rules ≡ true → FirstFailing rules number → InRange number
+pub number_of : (rules : List Rule) (number : ℕ) → numbered rules ≡ true → FirstFailing rules number → OfNode number
 number_of (rule k false ∷ rules) number n here =
-    let this = and_true (leb 1 k) (leb k 12) (and_true (leb 1 k && leb k 12) (numbered rules) n).0 in
-    (leb-true 1 k this.0, leb-true k 12 this.1)
-number_of (rule k true ∷ rules) number n (later f) = number_of rules number (and_true (leb 1 k && leb k 12) (numbered rules) n).1 f
+    let this = and_true (leb 2 k) (leb k 11) (and_true (leb 2 k && leb k 11) (numbered rules) n).0 in
+    (leb-true 2 k this.0, leb-true k 11 this.1)
+number_of (rule k true ∷ rules) number n (later f) = number_of rules number (and_true (leb 2 k && leb k 11) (numbered rules) n).1 f
 number_of [] number n f = elim f [ ]
 
 -- ---- a plan's nodes, and the place of a refusal

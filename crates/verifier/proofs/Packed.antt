@@ -1,14 +1,14 @@
 -- A packed plan, unpacked and checked.
 use Prim.Native.Nat.{ℕ, ◌+◌, ◌*◌, ◌-◌, ◌/◌, ◌≤◌}
 use mathlib.Core.Path.{◌≡◌, refl, sym, ap, ◌∙◌}
-use mathlib.Core.Bool.{Bool, true, false, cond}
-use mathlib.Core.List.{List}
+use mathlib.Core.List.{List, []}
+use Rattle.std.specs.Prelude.{Result, Ok, Err}
 use native.Mathlib.Omega.{arith}
 use lib.IntN.{ℤ}
-use lib.Dec.{eqb}
 use lib.ListN.{length, take}
 use lib.Seq.{sets, sets-eq, length-sets, take_at}
 use Rattle.plan.specs.Answers.{Outcome, accepted, refused, refuse, and_then}
+use Rattle.plan.specs.declared.faults.Refusal.{Refusal as Refused}
 use Rattle.codec.specs.declared.Plan.{Plan}
 use Rattle.codec.specs.declared.Plan.TheVariants.{Nodes, Stop}
 use Rattle.codec.specs.Plans.{Unpacked, unpack}
@@ -16,7 +16,6 @@ use Rattle.codec.specs.Steps.{plan_of, Stands}
 use Rattle.codec.proofs.Limits.{unpack_count, unpack_place}
 use Rattle.verifier.specs.declared.Derivation.{Derivation}
 use Rattle.verifier.specs.Check.{verdict, unpack_check, code_of}
-use Rattle.verifier.specs.Verdicts.{records_of}
 use Rattle.verifier.specs.Verdicts.{Ends, code_in}
 use Rattle.verifier.proofs.Ending.{counted}
 
@@ -33,14 +32,10 @@ module _ {r : Plan} where
   found_is (refused s) q e = let z : ◌≡◌ {A = ℕ} 0 1 = cc in absurd (omega arith)
 
 -- the check of a table that was read
-module _ (t : List ℤ) {w : Derivation} (d : Ends t w) where
-  by_test : (b : Bool) → b ≡ eqb w.number 0
-      → code_of (and_then (cond b (accepted (records_of w)) (refuse w.number w.place)) (λ ds. accepted (record { table = t; records = ds }))) ≡ cond b w.count (65536 * w.number + w.place)
-  by_test true e = counted t 0 d
-  by_test false e = refl
-
-  code_is : code_of (and_then (verdict t) (λ ds. accepted (record { table = t; records = ds }))) ≡ code_in w
-  code_is = rw d.is_verdict (by_test (eqb w.number 0) refl)
+module _ (t : List ℤ) where
+  code_is : (w : Result Derivation Refused) → Ends t w → code_of (and_then (verdict t) (λ ds. accepted (record { table = t; records = ds }))) ≡ code_in w
+  code_is (Ok d) a = rw a.is_check (counted t [] a)
+  code_is (Err e) b = rw b.is_check refl
 
 module _ (s : List ℕ) {r : Plan} (q : r ≡ plan_of (unpack s 4352)) where
   module _ {n p : ℕ} (e : r ≡ Stop n p) where
@@ -75,10 +70,10 @@ module _ (s : List ℕ) {r : Plan} (q : r ≡ plan_of (unpack s 4352)) where
           omega (arith, same, long, few_nodes)
 
       -- the part of the table that is checked, as the code takes it
-      pub nodes_code : {w : Derivation} {c : ℕ} → Ends (take (17 * v - 0) table) w → c ≡ code_in w → c ≡ code_of (unpack_check s)
+      pub nodes_code : (w : Result Derivation Refused) {c : ℕ} → Ends (take (17 * v - 0) table) w → c ≡ code_in w → c ≡ code_of (unpack_check s)
       unfolding unpack_check
-      nodes_code {w} {c} d ec =
+      nodes_code w {c} d ec =
           let k = words_are in
           let all : 17 * v - 0 ≡ 17 * v = omega arith in
           let plan : Ends k.0.words w = rw (all, k.2) at d in
-          ec ∙ sym (code_is k.0.words plan) ∙ rw k.1 refl
+          ec ∙ sym (code_is k.0.words w plan) ∙ rw k.1 refl

@@ -1,8 +1,8 @@
 -- The words that a check writes.
 use Prim.Native.Nat.{ℕ, zero, suc, ◌+◌, ◌*◌, ◌-◌, ◌≤◌, ◌<◌}
-use mathlib.Core.Path.{◌≡◌, refl, ap, ◌∙◌}
+use mathlib.Core.Path.{◌≡◌, refl, sym, ap, ◌∙◌}
 use mathlib.Core.Bool.{false, cond}
-use mathlib.Core.List.{List, [], ◌∷◌, ◌++◌, map, map-append, append-nil}
+use mathlib.Core.List.{List, [], ◌∷◌, ◌++◌, map, map-append, append-nil, append_assoc}
 use native.Mathlib.Omega.{arith}
 use native.Mathlib.Numerals.{add-one}
 use borrow.Author.Tests.{ne_eqb}
@@ -11,14 +11,15 @@ use mir.Val.{to_z}
 use mir.Facts.{to_z_pos}
 use lib.IntN.{ℤ, pos}
 use lib.Dec.{eqb}
-use lib.ListN.{length, replicate, get_or, set, take, length-append}
-use lib.Seq.{sets, sets-eq, length-sets, take-suc}
+use lib.ListN.{length, replicate, get_or, take, drop, length-append}
+use lib.Seq.{sets, sets-eq, length-sets, take-suc, drop-drop}
 use Rattle.laws.specs.Lists.{concat}
 use Rattle.laws.proofs.Lists.{concat_append}
 use Rattle.laws.proofs.Machine.{read_back, read_back_is, small_fits}
 use Rattle.plan.specs.declared.Interval.{Interval}
 use Rattle.plan.specs.Answers.{Outcome, accepted, written}
 use Rattle.laws.proofs.Pieces.{sets_more}
+use borrow.Rule.Slice.PartMut.{put_mid}
 use Rattle.bounds.specs.Narrow.{Held}
 use Rattle.shapes.specs.Rows.{extents_of}
 use Rattle.rules.specs.declared.Record.{Record}
@@ -39,14 +40,6 @@ module _ {i j : Interval} (e : i ≡ j) (h : Held i) where
   high_is = read_back_is (small_fits h.high) ∙ ap (λ (k : Interval). k.high) e
 
 -- ---- one record
-
--- four stores, one after another
-pub in_order : (l : List ℤ) (at : ℕ) (a b c d : ℤ) → set (set (set (set l at a) (at + 1) b) (at + 2) c) (at + 3) d ≡ sets l at (a ∷ b ∷ c ∷ d ∷ [])
-in_order l at a b c d =
-    let one : at + 1 ≡ suc at = omega arith in
-    let two : at + 2 ≡ suc (suc at) = omega arith in
-    let three : at + 3 ≡ suc (suc (suc at)) = omega arith in
-    rw (one, two, three) refl
 
 abbrev after : ℕ → ℕ → ℕ
 after before n = cond (eqb before 0) 0 n
@@ -75,15 +68,19 @@ module _ (r : Record) where
   eight_long : length (derived_words (view_of r)) ≡ 8
   eight_long = rw eight refl
 
-  -- four words, and four after them, as the code holds them
-  pub both_halves : (l : List ℤ) (at : ℕ) {mid end : List ℤ} {a b c d n0 n1 n2 n3 : ℤ} (m1 m2 m3 : ℕ)
-      → mid ≡ sets l at (a ∷ b ∷ c ∷ d ∷ []) → end ≡ sets mid (at + 4) (n0 ∷ n1 ∷ n2 ∷ n3 ∷ [])
+  -- the words as the code holds them
+  pub eight_words : {a b c d n0 n1 n2 n3 : ℤ} {m1 m2 m3 : ℕ}
       → m1 ≡ after r.extents.n0 r.extents.n1 → m2 ≡ after m1 r.extents.n2 → m3 ≡ after m2 r.extents.n3
       → a ≡ pos r.dtype → b ≡ pos r.device → c ≡ r.bounds.low → d ≡ r.bounds.high
       → n0 ≡ pos r.extents.n0 → n1 ≡ pos m1 → n2 ≡ pos m2 → n3 ≡ pos m3
-      → end ≡ sets l at (derived_words (view_of r))
-  both_halves l at {mid} {end} {a} {b} {c} {d} {n0} {n1} {n2} {n3} m1 m2 m3 f g f1 f2 f3 ea eb ec ed e0 e1 e2 e3 =
-      sets_more l at (a ∷ b ∷ c ∷ d ∷ []) (n0 ∷ n1 ∷ n2 ∷ n3 ∷ []) f refl g ∙ rw (eight, ea, eb, ec, ed, e0, e1, e2, e3, f3, f2, f1) refl
+      → (a ∷ b ∷ c ∷ d ∷ n0 ∷ n1 ∷ n2 ∷ n3 ∷ []) ≡ derived_words (view_of r)
+  eight_words f1 f2 f3 ea eb ec ed e0 e1 e2 e3 = rw (eight, ea, eb, ec, ed, e0, e1, e2, e3, f3, f2, f1) refl
+
+-- eight words copied into a part of the buffer
+pub part_written : (at : ℕ) (l : List ℤ) {ws new : List ℤ} → new ≡ ws → length ws ≡ 8 → at + 8 ≤ length l → put_mid at (at + 8 - at) l new ≡ sets l at ws
+part_written at l {ws} e long room =
+    let rest : drop (at + 8 - at) (drop at l) ≡ drop (at + length ws) l = drop-drop (at + 8 - at) at l ∙ ap (λ (n : ℕ). drop n l) (omega (arith, long)) in
+    rw (e, rest) (sym (append_assoc (take at l) ws (drop (at + length ws) l)) ∙ sym (sets-eq ws l at (omega (arith, long))))
 
 -- ---- records in turn
 

@@ -1,34 +1,38 @@
 -- How the code holds the check of a plan.
-use Rattle.std.specs.Prelude.{ℕ, ◌+◌, ◌*◌, ◌≤◌, ◌≡◌, cond, List, map, ℤ, eqb, length, take}
-use Rattle.plan.specs.Answers.{Outcome, accepted, refuse}
+use Rattle.std.specs.Prelude.{ℕ, ◌+◌, ◌*◌, ◌≤◌, ◌≡◌, List, map, ℤ, length, take, Result, Ok, Err, MatchResult}
+use Rattle.plan.specs.declared.faults.Refusal.{Refusal as Refused}
+use Rattle.plan.specs.Answers.{Outcome, accepted, refused}
+use Rattle.plan.specs.Coded.{fault_number, refusal_of}
 use Rattle.rules.specs.Rules.{Derived}
 use Rattle.rules.specs.Code.{view_of}
 use Rattle.verifier.specs.declared.Derivation.{Derivation}
 use Rattle.verifier.specs.Check.{check_to, total_of, verdict}
 
--- the outcome that a verdict of the code is
+-- what the code derived of the nodes
 abbrev pub records_of : Derivation → List Derived
-records_of r = map view_of (take r.count r.records)
+records_of d = map view_of (take d.count d.records)
 
-abbrev pub outcome_of : Derivation → Outcome (List Derived)
-outcome_of r = cond (eqb r.number 0) (accepted (records_of r)) (refuse r.number r.place)
+-- d has the records that o accepts, at most so many, with the total of their elements
+pub record Accepts (o : Outcome (List Derived)) (most : ℕ) (d : Derivation) : Type 0 where
+  pub is_check : o ≡ accepted (records_of d)
+  pub is_total : d.total ≡ total_of (records_of d)
+  pub few : d.count ≤ most
+  pub long : length d.records ≡ 256
+
+-- e is the refusal that o is; its numbers are small
+pub record Breaks (o : Outcome (List Derived)) (most : ℕ) (e : Refused) : Type 0 where
+  pub is_check : o ≡ refused (refusal_of e)
+  pub small : (fault_number e.fault ≤ 12) × (e.place ≤ most)
 
 -- r is what the check of the first `count` nodes gives, and the total of their elements
-pub record Derives (t : List ℤ) (count : ℕ) (r : Derivation) : Type 0 where
-  pub is_check : check_to t count ≡ outcome_of r
-  pub is_total : r.number ≡ 0 → r.total ≡ total_of (records_of r)
-  pub few : r.count ≤ count
-  pub small : (r.number ≤ 12) × (r.place ≤ count)
-  pub long : length r.records ≡ 256
+abbrev pub Derives : List ℤ → ℕ → Result Derivation Refused → Type 0
+Derives t count r = MatchResult r (Accepts (check_to t count) count) (Breaks (check_to t count) count)
 
 -- r is the check of the plan, with the total of its elements; its numbers are small
-pub record Ends (t : List ℤ) (r : Derivation) : Type 0 where
-  pub is_verdict : verdict t ≡ outcome_of r
-  pub is_total : r.number ≡ 0 → r.total ≡ total_of (records_of r)
-  pub few : r.count ≤ 256
-  pub small : (r.number ≤ 12) × (r.place ≤ 256)
-  pub long : length r.records ≡ 256
+abbrev pub Ends : List ℤ → Result Derivation Refused → Type 0
+Ends t r = MatchResult r (Accepts (verdict t) 256) (Breaks (verdict t) 256)
 
 -- "the node count or, refused, 65536 times the number plus the place"
-abbrev pub code_in : Derivation → ℕ
-code_in r = cond (eqb r.number 0) r.count (65536 * r.number + r.place)
+abbrev pub code_in : Result Derivation Refused → ℕ
+code_in (Ok d) = d.count
+code_in (Err e) = 65536 * fault_number e.fault + e.place

@@ -1,27 +1,40 @@
 // The check of a plan: its answer and what it writes.
 #![tactic(auto)]
 
-ghost use Rattle.std.specs.Prelude.{ℕ, ◌+◌, ◌*◌, ◌≤◌, ◌<◌, ◌/◌, ◌≡◌, cond, [], ◌∷◌, map, eqb, length, take};
+ghost use Rattle.std.specs.Prelude.{ℕ, ◌+◌, ◌*◌, ◌≤◌, ◌<◌, ◌/◌, ◌≡◌, cond, map, eqb, length, take, MatchResult};
 ghost use Rattle.std.proofs.lemmas.List.Edits.{sets};
 ghost use Rattle.laws.specs.Lists.{concat};
 ghost use Rattle.plan.specs.Words.{reads};
+ghost use Rattle.plan.specs.Answers.{answer_of};
+ghost use Rattle.plan.specs.Coded.{fault_number, outcome_of};
 ghost use Rattle.rules.specs.Rules.{no_source};
 ghost use Rattle.rules.specs.Code.{view_of};
 ghost use Rattle.verifier.specs.Check.{derived_words, check, check_answer, derived_after, unpack_check, code_of};
 ghost use Rattle.verifier.specs.Verdicts.{Derives, Ends, code_in};
 
 use codec::Plan;
-use plan::{Node, NodeNumber};
+use plan::{Fault, Node, NodeNumber, Refusal};
 use rules::{Judged, Record};
 
-// The records of an accepted plan, the first `count` of them, and the total of their elements; or the refusal and its place.
+// Rule 12: all nodes together have at most so many elements.
+const TOTAL_LIMIT: usize = 4194304;
+
+// The records of an accepted plan, the first `count` of them, and the total of their elements.
 #[derive(Clone, Copy)]
 pub struct Derivation {
-    pub number: usize,
-    pub place: usize,
     pub count: usize,
     pub total: usize,
     pub records: [Record; 256],
+}
+
+impl Derivation {
+    // What was derived of the nodes.
+    pub fn nodes(&self) -> &[Record]
+        requires { self.now.count ≤ length self.now.records }
+        ensures { result.now ≡ take self.now.count self.now.records }
+    {
+        &self.records[..self.count]
+    }
 }
 
 // Where the record of a source stands; 0 where it is no earlier node.
@@ -51,27 +64,27 @@ fn one_if_param(op: usize) -> usize
     if op == 1 { 1 } else { 0 }
 }
 
-// A verdict of its parts.
-pub fn ended(
-    number: usize,
-    place: usize,
-    count: usize,
-    total: usize,
-    records: [Record; 256],
-) -> Derivation
-    ensures { result ≡ record { number = number; place = place; count = count; total = total; records = records } }
+// The refusal of a rule, by its number.
+fn rule_broken(number: usize) -> Fault
+    requires { (2 ≤ number) × (number ≤ 11) }
+    ensures { fault_number result ≡ number }
 {
-    Derivation {
-        number: number,
-        place: place,
-        count: count,
-        total: total,
-        records: records,
+    match number {
+        2 => Fault::NoOperation,
+        3 => Fault::UnusedWord,
+        4 => Fault::Source,
+        5 => Fault::TypeNumber,
+        6 => Fault::OperandTypes,
+        7 => Fault::RowOrNumber,
+        8 => Fault::Shapes,
+        9 => Fault::Devices,
+        10 => Fault::ZeroDivisor,
+        _ => Fault::ResultRange,
     }
 }
 
 // Rules 2 to 11 of the first `count` nodes in turn.
-pub fn derive(table: &[i64], count: usize) -> Derivation
+pub fn derive(table: &[i64], count: usize) -> Result<Derivation, Refusal>
     requires { (17 * count ≤ length table.now) × (count ≤ 256) }
     ensures { Derives table.now count result }
 {
@@ -79,14 +92,13 @@ pub fn derive(table: &[i64], count: usize) -> Derivation
     let mut records = [none; 256];
     let mut params = 0;
     let mut total = 0;
-    let mut i = 0;
-    while i < count {
+    for i in 0..count {
         let x = plan::node_at(table, i);
         let op = x.op;
         let mask = plan::used_mask(op);
         let broken = rules::early(table, i, x, mask);
         if broken != 0 {
-            return ended(broken, i, 0, 0, records);
+            return Err(rule_broken(broken).at(i));
         }
         let place1 = source_place(x.source1, i);
         let place2 = source_place(x.source2, i);
@@ -97,35 +109,34 @@ pub fn derive(table: &[i64], count: usize) -> Derivation
         let judged = rules::judge(x, mask, params, a, b, c);
         match judged {
             Judged::Breaks(number) => {
-                return ended(number, i, 0, 0, records);
+                return Err(rule_broken(number).at(i));
             }
             Judged::Meets(r, n) => {
                 records[i] = r;
                 total += n;
                 params += one_if_param(op);
-                i += 1;
             }
         }
     }
-    ended(0, 0, count, total, records)
+    Ok(Derivation {
+        count,
+        total,
+        records,
+    })
 }
 
 // Rules 1 to 12.
-pub fn verdict(table: &[i64]) -> Derivation
+pub fn verdict(table: &[i64]) -> Result<Derivation, Refusal>
     ensures { Ends table.now result }
 {
     if !plan::length_right(table) {
-        let none = rules::blank();
-        return ended(1, 0, 0, 0, [none; 256]);
+        return Err(Fault::Length.at(0));
     }
-    let r = derive(table, table.len() / 17);
-    if r.number == 0 {
-        if 4194304 < r.total {
-            let records = r.records;
-            return ended(12, 0, 0, 0, records);
-        }
+    let derivation = derive(table, table.len() / 17)?;
+    if TOTAL_LIMIT < derivation.total {
+        return Err(Fault::TotalElements.at(0));
     }
-    r
+    Ok(derivation)
 }
 
 // A word of a shape row: 0 after a 0.
@@ -133,17 +144,6 @@ fn after(before: u32, n: u32) -> u32
     ensures { result ≡ cond (eqb before 0) 0 n }
 {
     if before == 0 { 0 } else { n }
-}
-
-// Four words from place `at` on.
-fn write_four(derived: &mut [i64], at: usize, a: i64, b: i64, c: i64, d: i64)
-    requires { at + 4 ≤ length derived.old }
-    ensures { derived.new ≡ sets derived.old at (a ∷ b ∷ c ∷ d ∷ []) }
-{
-    derived[at] = a;
-    derived[at + 1] = b;
-    derived[at + 2] = c;
-    derived[at + 3] = d;
 }
 
 // A node's record as eight words from place `at` on.
@@ -156,54 +156,56 @@ fn write_record(r: Record, derived: &mut [i64], at: usize)
     let n2 = after(n1, r.extents.n2);
     let n3 = after(n2, r.extents.n3);
     let ends = bounds::wide(r.bounds);
-    write_four(
-        derived,
-        at,
+    derived[at..at + 8].copy_from_slice(&[
         r.dtype as i64,
         r.device as i64,
         ends.low,
         ends.high,
-    );
-    write_four(derived, at + 4, n0 as i64, n1 as i64, n2 as i64, n3 as i64);
+        n0 as i64,
+        n1 as i64,
+        n2 as i64,
+        n3 as i64,
+    ]);
 }
 
-// The first `count` records, eight words each.
-fn write_records(records: [Record; 256], count: usize, derived: &mut [i64])
-    requires { (count ≤ 256) × (8 * count ≤ length derived.old) }
-    ensures { derived.new ≡ sets derived.old 0 (concat (map derived_words (map view_of (take count records)))) }
+// Records, eight words each.
+fn write_records(records: &[Record], derived: &mut [i64])
+    requires { (length records.now ≤ 256) × (8 * length records.now ≤ length derived.old) }
+    ensures { derived.new ≡ sets derived.old 0 (concat (map derived_words (map view_of records.now))) }
 {
-    let mut i = 0;
-    while i < count {
-        write_record(records[i], derived, 8 * i);
-        i += 1;
+    for (i, r) in records.iter().enumerate() {
+        write_record(*r, derived, 8 * i);
     }
+}
+
+// The check of a plan, and what was derived of its nodes, eight words each. It counts nothing.
+fn checked(table: &[i64], derived: &mut [i64]) -> Result<u64, Refusal>
+    ensures { (answer_of (λ n. n) (outcome_of (λ n. n) result) ≡ check_answer (check table.now (length derived.old))) × (derived.new ≡ derived_after (check table.now (length derived.old)) derived.old) }
+{
+    let derivation = verdict(table)?;
+    if derived.len() < 8 * derivation.count {
+        return Err(Fault::Room.at(0));
+    }
+    write_records(derivation.nodes(), derived);
+    Ok(0)
 }
 
 // The check of a plan, and what was derived of its nodes, eight words each; where it is refused, `derived` stays as it was.
 pub fn check(table: &[i64], derived: &mut [i64]) -> plan::Answer
     ensures { (result ≡ check_answer (check table.now (length derived.old))) × (derived.new ≡ derived_after (check table.now (length derived.old)) derived.old) }
 {
-    let r = verdict(table);
-    if r.number != 0 {
-        return plan::refused(r.number as u64, r.place as u64);
-    }
-    if derived.len() < 8 * r.count {
-        return plan::refused(14, 0);
-    }
-    let records = r.records;
-    write_records(records, r.count, derived);
-    plan::accepted(0)
+    plan::Answer::from(checked(table, derived))
 }
 
 // The node count or, refused, 65536 times the number plus the place.
-fn code(r: Derivation) -> u64
-    requires { (r.number ≤ 12) × (r.place ≤ 256) }
+fn code(r: Result<Derivation, Refusal>) -> u64
+    requires { MatchResult r (λ d. d.count ≤ 256) (λ e. e.place ≤ 256) }
     ensures { result ≡ code_in r }
 {
-    if r.number == 0 {
-        return r.count as u64;
+    match r {
+        Ok(derivation) => derivation.count as u64,
+        Err(refusal) => 65536 * (refusal.fault as u64) + (refusal.place as u64),
     }
-    65536 * (r.number as u64) + (r.place as u64)
 }
 
 // A packed plan, unpacked and checked in one call.

@@ -1,9 +1,6 @@
-use Prim.Native.Nat.{◌≤◌, ◌*◌, ◌-◌}
+use Prim.Native.Nat.{◌≤◌, ◌*◌}
 use Rattle.verifier.proofs.Deriving.{SoFar}
 use Rattle.verifier.proofs.derive.Given as goal
 
 abbrev pub invariant-loop-i : goal.invariant-loop-i
-invariant-loop-i l = (l.i ≤ l.count) × (l.total ≤ l.i * 1048576) × SoFar l.table l.i l.records l.params l.total
-
-abbrev pub decreases-loop-i : goal.decreases-loop-i
-decreases-loop-i l = l.count - l.i
+invariant-loop-i l = (l.total ≤ l.i * 1048576) × SoFar l.table l.i l.records l.params l.total

@@ -22,4 +22,4 @@ returns-in-Stop c = stop_code c.args.bytes.now c.read_plan.ensures.0 c.in-Stop.i
 pub returns-in-Nodes : goal.returns-in-Nodes
 returns-in-Nodes c =
     let read = c.read_plan.ensures in
-    nodes_code c.args.bytes.now read.0 c.in-Nodes.is _ _ (length-replicate 4352 (pos 0)) read.1 c.verdict.ensures c.code.ensures
+    nodes_code c.args.bytes.now read.0 c.in-Nodes.is _ _ (length-replicate 4352 (pos 0)) read.1 c.verdict.result c.verdict.ensures c.code.ensures

@@ -1,27 +1,24 @@
 use mathlib.Core.Bool.{not}
 use mathlib.Core.Path.{ap}
-use lib.ListN.{length-replicate}
+use Rattle.std.proofs.lemmas.Result.{err_from_is_err_and}
 use Rattle.laws.proofs.Booleans.{on, off}
 use Rattle.verifier.proofs.Ending.{wrong_length, right_length, node_breaks, all_meet, too_many}
 use Rattle.verifier.proofs.verdict.Goals as goal
 
 pub returns-then-not-length_right : goal.returns-then-not-length_right
-returns-then-not-length_right c = wrong_length c.args.table.now _ (length-replicate 256 c.blank-none.result) (off _ c.length_right.ensures (ap not c.if-not-length_right.true)) c.ended.ensures
+returns-then-not-length_right c = wrong_length c.args.table.now (off _ c.length_right.ensures (ap not c.if-not-length_right.true)) c.at.ensures
 
-pub derive-r-requires : goal.derive-r-requires
-derive-r-requires c = right_length c.args.table.now (on _ c.length_right.ensures (ap not c.if-not-length_right.false))
+pub derive-requires : goal.derive-requires
+derive-requires c = right_length c.args.table.now (on _ c.length_right.ensures (ap not c.if-not-length_right.false))
 
-pub returns-then-r-gt4194304 : goal.returns-then-r-gt4194304
-returns-then-r-gt4194304 c =
-    let right = on _ c.length_right.ensures (ap not c.if-not-length_right.false) in
-    too_many c.args.table.now right c.derive-r.ensures c.if-r-eq0.true c.if-r-gt4194304.true c.ended-then-r-gt4194304.ensures
+pub returns-in_err-derivation : goal.returns-in_err-derivation
+returns-in_err-derivation c =
+    let p = err_from_is_err_and c.from_residual.result c.from_residual.ensures.1 in
+    rw (p.1, p.2) (node_breaks c.args.table.now (on _ c.length_right.ensures (ap not c.if-not-length_right.false)) c.in_err-derivation.ensures)
 
-pub returns-else-r-gt4194304 : goal.returns-else-r-gt4194304
-returns-else-r-gt4194304 c =
-    let right = on _ c.length_right.ensures (ap not c.if-not-length_right.false) in
-    all_meet c.args.table.now right c.derive-r.ensures c.if-r-eq0.true c.if-r-gt4194304.false
+pub returns-then-derivation-gt-TOTAL_LIMIT : goal.returns-then-derivation-gt-TOTAL_LIMIT
+returns-then-derivation-gt-TOTAL_LIMIT c =
+    too_many c.args.table.now (on _ c.length_right.ensures (ap not c.if-not-length_right.false)) c.in_ok-derivation.ensures c.if-derivation-gt-TOTAL_LIMIT.true c.at-then-derivation-gt-TOTAL_LIMIT.ensures
 
-pub returns-else-r-eq0 : goal.returns-else-r-eq0
-returns-else-r-eq0 c =
-    let right = on _ c.length_right.ensures (ap not c.if-not-length_right.false) in
-    node_breaks c.args.table.now right c.derive-r.ensures c.if-r-eq0.false
+pub returns : goal.returns
+returns c = all_meet c.args.table.now (on _ c.length_right.ensures (ap not c.if-not-length_right.false)) c.in_ok-derivation.ensures c.if-derivation-gt-TOTAL_LIMIT.false

@@ -1,4 +1,3 @@
-use Prim.Native.Nat.{◌≤◌, ◌-◌}
 use mathlib.Core.Path.{◌≡◌}
 use lib.ListN.{length, take}
 use lib.Seq.{sets}
@@ -6,7 +5,4 @@ use Rattle.verifier.proofs.Writing.{words_of_all}
 use Rattle.verifier.proofs.write_records.Given as goal
 
 abbrev pub invariant-loop-i : goal.invariant-loop-i
-invariant-loop-i l = (l.i ≤ l.count) × (length l.derived ≡ length l.initial.derived) × (length l.records ≡ 256) × (l.derived ≡ sets l.initial.derived 0 (words_of_all (take l.i l.records)))
-
-abbrev pub decreases-loop-i : goal.decreases-loop-i
-decreases-loop-i l = l.count - l.i
+invariant-loop-i l = (length l.derived ≡ length l.initial.derived) × (l.derived ≡ sets l.initial.derived 0 (words_of_all (take l.i l.records)))

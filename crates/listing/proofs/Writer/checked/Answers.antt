@@ -2,11 +2,11 @@ use Rattle.listing.proofs.Plans.{refused_text, accepted_text, in_table}
 use Rattle.listing.proofs.Writing.{said}
 use Rattle.listing.proofs.Writer.checked.Goals as goal
 
-pub returns-then-r-ne0 : goal.returns-then-r-ne0
-returns-then-r-ne0 c = said (refused_text c.args.table.now c.verdict-r.ensures c.if-r-ne0.true) c.refusal.ensures
+pub returns-in-Err : goal.returns-in-Err
+returns-in-Err c = said (refused_text c.args.table.now c.in-Err.ensures) (rw c.from-answer.ensures at c.refusal.ensures)
 
 pub accepted-requires : goal.accepted-requires
-accepted-requires c = (c.verdict-r.ensures.few, in_table c.args.table.now c.verdict-r.ensures c.if-r-ne0.false, c.requires)
+accepted-requires c = (c.in-Ok.ensures.few, in_table c.args.table.now c.in-Ok.ensures, c.requires)
 
-pub returns : goal.returns
-returns c = said (accepted_text c.args.table.now c.verdict-r.ensures c.if-r-ne0.false) c.accepted.ensures
+pub returns-in-Ok : goal.returns-in-Ok
+returns-in-Ok c = said (accepted_text c.args.table.now c.in-Ok.ensures) c.accepted.ensures
