@@ -9,6 +9,10 @@ use Rattle.views.specs.Views.{cells_of, place}
 abbrev pub over : {A : Type 0} → ℕ → A → A → A
 over f x y = cond (eqb f 1) x y
 
+-- the cell at place k of l, where its flag says that it is known, laid over that at place h; d stands where there is none
+abbrev pub over_cell : {A : Type 0} → A → List A → List ℕ → ℕ → ℕ → A
+over_cell d l fs k h = over (get_or fs k 0) (get_or l k d) (get_or l h d)
+
 -- the cell at place k laid over that at place l
 abbrev pub over_value : List ℤ → List ℕ → ℕ → ℕ → ℤ
 over_value vs fs k l = over (get_or fs k 0) (get_or vs k (pos 0)) (get_or vs l (pos 0))

@@ -1,116 +1,88 @@
-// FILL and KNOWN: one view's cells laid over another's, and flags as numbers; a loop for each buffer.
+// FILL and KNOWN: one view's cells laid over another's, and flags as numbers.
 #![tactic(auto)]
 
-ghost use Rattle.std.specs.Prelude.{◌≡◌, true, ℕ, ◌+◌, ◌*◌, ◌≤◌, ◌<◌, pos, length, get_or};
+ghost use Rattle.std.specs.Prelude.{◌≡◌, ℕ, ◌+◌, ◌*◌, ◌≤◌, ◌<◌, pos, length, get_or};
 ghost use Rattle.laws.specs.Store.{store};
-ghost use Rattle.views.specs.Views.{stride_of, step, span, rows_of, reach};
-ghost use Rattle.overlaying.specs.Overlay.{over, over_value, over_flag, overlaid_values, overlaid_flags};
+ghost use Rattle.views.specs.Views.{step, span, rows_of, cells_of, place, reach};
+ghost use Rattle.overlaying.specs.Overlay.{over, over_cell, overlaid_values, overlaid_flags};
 
 use plan::Row;
-use views::{Stride, View};
+use views::{Line, Stride, View};
 
-// The number that is known, else the one below it.
-fn upper_value(f: u8, x: i64, y: i64) -> i64
+// The cell that is known, else the one below it.
+fn upper<T: Copy>(f: u8, x: T, y: T) -> T
     ensures { result ≡ over f x y }
 {
     if f == 1 { x } else { y }
 }
 
-// The same of its flag.
-fn upper_flag(f: u8, g: u8) -> u8
-    ensures { result ≡ over f 1 g }
-{
-    if f == 1 { 1 } else { g }
-}
-
-// n numbers along one axis of each view.
-fn line_values(
-    values: &mut [i64],
+// n cells of a line laid over those of another.
+fn overlay_line<T: Copy>(
+    out: &mut [T],
+    cells: &[T],
     flags: &[u8],
     n: usize,
-    p: usize,
-    a: Stride,
-    q: usize,
-    b: Stride,
+    a: Line,
+    b: Line,
     to: usize,
 )
-    requires { (p + span n a < to) × (q + span n b < to) × (to + n ≤ length values.old) × (to ≤ length flags.now) }
-    ensures { values.new ≡ store values.old to n (λ (j : ℕ). over_value values.old flags.now (p + step n a j) (q + step n b j)) }
+    requires { (a.place + span n a.stride < length cells.now) × (b.place + span n b.stride < length cells.now) × (length cells.now ≤ length flags.now) × (to + n ≤ length out.old) }
+    ensures { (d : T) → out.new ≡ store out.old to n (λ (j : ℕ). over_cell d cells.now flags.now (a.place + step n a.stride j) (b.place + step n b.stride j)) }
 {
-    let mut i = 0;
-    while i < n {
-        let k = p + views::step_at(n, a, i);
-        let l = q + views::step_at(n, b, i);
-        let value = upper_value(flags[k], values[k], values[l]);
-        values[to + i] = value;
-        i += 1;
+    for i in 0..n {
+        let k = a.at(n, i);
+        out[to + i] = upper(flags[k], cells[k], cells[b.at(n, i)]);
     }
-}
-
-// n flags along one axis of each view.
-fn line_flags(flags: &mut [u8], n: usize, p: usize, a: Stride, q: usize, b: Stride, to: usize)
-    requires { (p + span n a < to) × (q + span n b < to) × (to + n ≤ length flags.old) }
-    ensures { flags.new ≡ store flags.old to n (λ (j : ℕ). over_flag flags.old (p + step n a j) (q + step n b j)) }
-{
-    let mut i = 0;
-    while i < n {
-        let k = p + views::step_at(n, a, i);
-        let l = q + views::step_at(n, b, i);
-        flags[to + i] = upper_flag(flags[k], flags[l]);
-        i += 1;
-    }
-}
-
-// The first view steps by x and the second by y.
-fn same_strides(a: Stride, b: Stride, x: usize, y: usize) -> bool
-    ensures { result ≡ true → (a ≡ stride_of x 0) × (b ≡ stride_of y 0) }
-{
-    views::is_stride(a, x, 0) & views::is_stride(b, y, 0)
 }
 
 // The same, where one place after another over one place after another, or over one place for all, is a loop of its own.
-fn row_values(
-    values: &mut [i64],
+fn overlay_row<T: Copy>(
+    out: &mut [T],
+    cells: &[T],
     flags: &[u8],
     n: usize,
-    p: usize,
-    a: Stride,
-    q: usize,
-    b: Stride,
+    a: Line,
+    b: Line,
     to: usize,
 )
-    requires { (p + span n a < to) × (q + span n b < to) × (to + n ≤ length values.old) × (to ≤ length flags.now) }
-    ensures { values.new ≡ store values.old to n (λ (j : ℕ). over_value values.old flags.now (p + step n a j) (q + step n b j)) }
+    requires { (a.place + span n a.stride < length cells.now) × (b.place + span n b.stride < length cells.now) × (length cells.now ≤ length flags.now) × (to + n ≤ length out.old) }
+    ensures { (d : T) → out.new ≡ store out.old to n (λ (j : ℕ). over_cell d cells.now flags.now (a.place + step n a.stride j) (b.place + step n b.stride j)) }
 {
-    let one = Stride { up: 1, down: 0 };
-    let none = Stride { up: 0, down: 0 };
-    if same_strides(a, b, 1, 1) {
-        line_values(values, flags, n, p, one, q, one, to);
-        return;
+    match (a.stride, b.stride) {
+        (Stride { up: 1, down: 0 }, Stride { up: 1, down: 0 }) => {
+            overlay_line(
+                out,
+                cells,
+                flags,
+                n,
+                Line::unit(a.place),
+                Line::unit(b.place),
+                to,
+            )
+        }
+        (Stride { up: 1, down: 0 }, Stride { up: 0, down: 0 }) => {
+            overlay_line(
+                out,
+                cells,
+                flags,
+                n,
+                Line::unit(a.place),
+                Line::still(b.place),
+                to,
+            )
+        }
+        _ => overlay_line(out, cells, flags, n, a, b, to),
     }
-    if same_strides(a, b, 1, 0) {
-        line_values(values, flags, n, p, one, q, none, to);
-        return;
-    }
-    line_values(values, flags, n, p, a, q, b, to);
 }
 
-// The same of flags.
-fn row_flags(flags: &mut [u8], n: usize, p: usize, a: Stride, q: usize, b: Stride, to: usize)
-    requires { (p + span n a < to) × (q + span n b < to) × (to + n ≤ length flags.old) }
-    ensures { flags.new ≡ store flags.old to n (λ (j : ℕ). over_flag flags.old (p + step n a j) (q + step n b j)) }
+// The cells of view a laid over those of view b.
+fn overlay<T: Copy>(out: &mut [T], cells: &[T], flags: &[u8], g: Row, a: View, b: View, rows: usize)
+    requires { (rows ≡ rows_of g) × (reach g a < length cells.now) × (reach g b < length cells.now) × (length cells.now ≤ length flags.now) × (rows * g.r3 ≤ length out.old) }
+    ensures { (d : T) → out.new ≡ store out.old 0 (cells_of g) (λ (j : ℕ). over_cell d cells.now flags.now (place g a j) (place g b j)) }
 {
-    let one = Stride { up: 1, down: 0 };
-    let none = Stride { up: 0, down: 0 };
-    if same_strides(a, b, 1, 1) {
-        line_flags(flags, n, p, one, q, one, to);
-        return;
+    for i in 0..rows {
+        overlay_row(out, cells, flags, g.r3, a.row(g, i), b.row(g, i), i * g.r3);
     }
-    if same_strides(a, b, 1, 0) {
-        line_flags(flags, n, p, one, q, none, to);
-        return;
-    }
-    line_flags(flags, n, p, a, q, b, to);
 }
 
 // The numbers of view a laid over those of view b.
@@ -126,40 +98,17 @@ pub fn overlay_values(
     requires { (rows ≡ rows_of g) × (reach g a < start) × (reach g b < start) × (start + rows * g.r3 ≤ length values.old) × (start + rows * g.r3 ≤ length flags.now) }
     ensures { values.new ≡ overlaid_values values.old flags.now g a b start }
 {
-    let n = g.r3;
-    let mut i = 0;
-    let mut to = start;
-    while i < rows {
-        let p = views::row_place(g, a, i);
-        let q = views::row_place(g, b, i);
-        row_values(values, flags, n, p, a.s3, q, b.s3, to);
-        to += n;
-        i += 1;
-    }
+    let (cells, out) = values.split_at_mut(start);
+    overlay(out, cells, flags, g, a, b, rows);
 }
 
-// The flags of view a laid over those of view b.
+// The flags of view a laid over those of view b: where one is known, it is 1.
 pub fn overlay_flags(flags: &mut [u8], g: Row, a: View, b: View, rows: usize, start: usize)
     requires { (rows ≡ rows_of g) × (reach g a < start) × (reach g b < start) × (start + rows * g.r3 ≤ length flags.old) }
     ensures { flags.new ≡ overlaid_flags flags.old g a b start }
 {
-    let n = g.r3;
-    let mut i = 0;
-    let mut to = start;
-    while i < rows {
-        let p = views::row_place(g, a, i);
-        let q = views::row_place(g, b, i);
-        row_flags(flags, n, p, a.s3, q, b.s3, to);
-        to += n;
-        i += 1;
-    }
-}
-
-// A flag as a number.
-fn number_of(f: u8) -> i64
-    ensures { result ≡ pos f }
-{
-    f as i64
+    let (cells, out) = flags.split_at_mut(start);
+    overlay(out, cells, cells, g, a, b, rows);
 }
 
 // n flags from p on, as numbers.
@@ -167,10 +116,7 @@ pub fn known_values(values: &mut [i64], flags: &[u8], n: usize, p: usize, to: us
     requires { (p + n ≤ length flags.now) × (to + n ≤ length values.old) }
     ensures { values.new ≡ store values.old to n (λ (j : ℕ). pos (get_or flags.now (p + j) 0)) }
 {
-    let mut i = 0;
-    while i < n {
-        let value = number_of(flags[p + i]);
-        values[to + i] = value;
-        i += 1;
+    for i in 0..n {
+        values[to + i] = i64::from(flags[p + i]);
     }
 }

@@ -1,7 +1,0 @@
-use native.Mathlib.Omega.{arith}
-use mir.Facts.{to_z_pos}
-use mir.Syntax.{w64}
-use Rattle.overlaying.proofs.number_of.Goals as goal
-
-pub returns : goal.returns
-returns c = to_z_pos w64 (omega arith)
