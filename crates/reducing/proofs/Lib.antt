@@ -1,3 +1,3 @@
 pub mod Folds
 pub mod Rooms
-pub mod Grids
+pub mod Rows

@@ -10,10 +10,12 @@ ghost use Rattle.reducing.specs.Folding.{fold_from, combine_of, first, source, r
 ghost use Rattle.reducing.specs.Gathering.{along, far, taken, runs, AllIn, Room};
 
 use folding::{Fold, Larger, Smaller, Sum};
+use grids::Grid;
 use plan::Row;
 use views::{Line, View};
 
 mod folding;
+mod grids;
 
 // A run of n cells along a line folded into acc.
 fn fold_along<F: Fold>(cells: &[F::Cell], acc: F::Cell, n: usize, line: Line) -> F::Cell
@@ -109,66 +111,41 @@ fn fold_row<F: Fold>(
 }
 
 // All rows of the result, and one row of what is gathered.
-fn fold_rows<F: Fold>(
-    cells: &mut [F::Cell],
-    k: Row,
-    kept: View,
-    m: usize,
-    gathered: Line,
-    rows: usize,
-    start: usize,
-)
-    requires { (rows ≡ rows_of k) × (reach k kept + far m gathered < start) × (start + rows * k.r3 ≤ length cells.old) × AllIn F.Fits F.blank cells.old kept.base (reach k kept + far m gathered + 1) × Room F.HasRoom F.blank cells.old start (rows * k.r3) m }
-    ensures { cells.new ≡ taken F.op F.blank cells.old start (rows * k.r3) (λ (e i : ℕ). place k kept e + along m gathered i) m }
+fn fold_rows<F: Fold>(cells: &mut [F::Cell], kept: Grid, m: usize, gathered: Line, start: usize)
+    requires { (reach kept.extents kept.view + far m gathered < start) × (start + cells_of kept.extents ≤ length cells.old) × AllIn F.Fits F.blank cells.old kept.view.base (reach kept.extents kept.view + far m gathered + 1) × Room F.HasRoom F.blank cells.old start (cells_of kept.extents) m }
+    ensures { cells.new ≡ taken F.op F.blank cells.old start (cells_of kept.extents) (λ (e i : ℕ). place kept.extents kept.view e + along m gathered i) m }
 {
-    let n = k.r3;
-    for i in 0..rows {
-        let row = kept.row(k, i);
+    let n = kept.extents.r3;
+    for i in 0..kept.rows {
+        let row = kept.view.row(kept.extents, i);
         fold_row::<F>(cells, n, row, m, gathered, start + i * n);
     }
 }
 
 // All rows of what is gathered, one after another.
-fn fold_blocks<F: Fold>(
-    cells: &mut [F::Cell],
-    k: Row,
-    kept: View,
-    g: Row,
-    gathered: View,
-    rows: usize,
-    blocks: usize,
-    start: usize,
-)
-    requires { (rows ≡ rows_of k) × (blocks ≡ rows_of g) × (reach k kept + reach g gathered < start) × (start + rows * k.r3 ≤ length cells.old) × AllIn F.Fits F.blank cells.old kept.base (reach k kept + reach g gathered + 1) × Room F.HasRoom F.blank cells.old start (rows * k.r3) (blocks * g.r3) }
-    ensures { cells.new ≡ taken F.op F.blank cells.old start (rows * k.r3) (source k kept g gathered) (blocks * g.r3) }
+fn fold_blocks<F: Fold>(cells: &mut [F::Cell], kept: Grid, gathered: Grid, start: usize)
+    requires { (reach kept.extents kept.view + reach gathered.extents gathered.view < start) × (start + cells_of kept.extents ≤ length cells.old) × AllIn F.Fits F.blank cells.old kept.view.base (reach kept.extents kept.view + reach gathered.extents gathered.view + 1) × Room F.HasRoom F.blank cells.old start (cells_of kept.extents) (cells_of gathered.extents) }
+    ensures { cells.new ≡ taken F.op F.blank cells.old start (cells_of kept.extents) (source kept.extents kept.view gathered.extents gathered.view) (cells_of gathered.extents) }
 {
-    for j in 0..blocks {
-        fold_rows::<F>(cells, k, kept, g.r3, gathered.row(g, j), rows, start);
+    let m = gathered.extents.r3;
+    for j in 0..gathered.rows {
+        let run = gathered.view.row(gathered.extents, j);
+        fold_rows::<F>(cells, kept, m, run, start);
     }
 }
 
 // A sum begins with 0, a maximum with its first number.
-fn fold_values(
-    values: &mut [i64],
-    how: usize,
-    k: Row,
-    kept: View,
-    g: Row,
-    gathered: View,
-    rows: usize,
-    blocks: usize,
-    start: usize,
-)
-    requires { (rows ≡ rows_of k) × (blocks ≡ rows_of g) × (cells_of g ≤ 1048576) × (reach k kept + reach g gathered < start) × (start + rows * k.r3 ≤ length values.old) × SmallIn values.old kept.base (reach k kept + reach g gathered + 1) }
-    ensures { values.new ≡ store values.old start (cells_of k) (λ (e : ℕ). fold_from (combine_of how) (first how values.old (place k kept e)) (λ (i : ℕ). get_or values.old (source k kept g gathered e i) (pos 0)) (cells_of g)) }
+fn fold_values(values: &mut [i64], how: usize, kept: Grid, gathered: Grid, start: usize)
+    requires { (cells_of gathered.extents ≤ 1048576) × (reach kept.extents kept.view + reach gathered.extents gathered.view < start) × (start + cells_of kept.extents ≤ length values.old) × SmallIn values.old kept.view.base (reach kept.extents kept.view + reach gathered.extents gathered.view + 1) }
+    ensures { values.new ≡ store values.old start (cells_of kept.extents) (λ (e : ℕ). fold_from (combine_of how) (first how values.old (place kept.extents kept.view e)) (λ (i : ℕ). get_or values.old (source kept.extents kept.view gathered.extents gathered.view e i) (pos 0)) (cells_of gathered.extents)) }
 {
     if how == 0 {
-        moving::fill(values, rows * k.r3, start, 0);
-        fold_blocks::<Sum>(values, k, kept, g, gathered, rows, blocks, start);
+        moving::fill(values, kept.rows * kept.extents.r3, start, 0);
+        fold_blocks::<Sum>(values, kept, gathered, start);
         return;
     }
-    moving::move_cells(values, k, kept, rows, start);
-    fold_blocks::<Larger>(values, k, kept, g, gathered, rows, blocks, start);
+    moving::move_cells(values, kept.extents, kept.view, kept.rows, start);
+    fold_blocks::<Larger>(values, kept, gathered, start);
 }
 
 // REDUCE.
@@ -188,8 +165,18 @@ pub fn reduce(
     ensures values_after { values.new ≡ reduced_values how values.old flags.old k kept g gathered start }
     ensures flags_after { flags.new ≡ reduced_flags flags.old k kept g gathered start }
 {
+    let from = Grid {
+        extents: k,
+        view: kept,
+        rows,
+    };
+    let over = Grid {
+        extents: g,
+        view: gathered,
+        rows: blocks,
+    };
     moving::move_cells(flags, k, kept, rows, start);
-    fold_blocks::<Smaller>(flags, k, kept, g, gathered, rows, blocks, start);
-    fold_values(values, how, k, kept, g, gathered, rows, blocks, start);
+    fold_blocks::<Smaller>(flags, from, over, start);
+    fold_values(values, how, from, over, start);
     validity::clear_own(values, flags, rows * k.r3, start);
 }

@@ -1,17 +1,17 @@
-use Prim.Native.Nat.{◌+◌, ◌*◌, ◌≤◌}
+use Prim.Native.Nat.{ℕ, ◌+◌, ◌≤◌}
 use mathlib.Core.Path.{◌≡◌}
 use mathlib.Core.List.{List}
 use native.Mathlib.Omega.{arith}
 use borrow.Author.Tests.{ne_eqb}
-use Prim.Native.Nat.{ℕ}
 use lib.IntN.{ℤ, pos}
 use lib.ListN.{length}
 use Rattle.laws.specs.Store.{store}
 use Rattle.laws.proofs.Machine.{Small}
 use Rattle.laws.proofs.Store.{store_hit, length_store}
+use Rattle.views.specs.Views.{cells_of}
 use Rattle.reducing.specs.Gathering.{Room}
 use Rattle.reducing.specs.Sums.{SumRoom}
-use Rattle.reducing.proofs.Grids.{whole}
+use Rattle.reducing.proofs.Rows.{whole}
 use Rattle.reducing.proofs.Rooms.{fit_kept}
 use Rattle.reducing.proofs.fold_values.Goals as goal
 
@@ -22,23 +22,22 @@ begin_room l m start n k fits e few c h = rw (store_hit l m start n _ c (pos 0) 
 pub fold_blocks-requires : goal.fold_blocks-requires
 fold_blocks-requires c =
     let a = c.args in
-    let e = c.fill.ensures in (
-      c.requires.0,
+    let n = cells_of a.kept.extents in
+    let e = rw a.kept.all_rows at c.fill.ensures in (
       c.requires.1,
-      c.requires.3,
-      rw (e, length_store) c.requires.4,
-      fit_kept (pos 0) a.values.now c.fill.new.cells a.start (a.rows * a.k.r3) _ e Small c.requires.5 (omega (arith, c.requires.3)) (omega arith) (omega arith),
-      begin_room _ _ a.start (a.rows * a.k.r3) (a.blocks * a.g.r3) c.requires.4 e (rw (← c.requires.1) at c.requires.2),
+      rw (e, length_store) c.requires.2,
+      fit_kept (pos 0) a.values.now c.fill.new.cells a.start n _ e Small c.requires.3 (omega (arith, c.requires.1)) (omega arith) (omega arith),
+      begin_room _ _ a.start n (cells_of a.gathered.extents) c.requires.2 e c.requires.0,
     )
 
 pub returns-then-how-eq0 : goal.returns-then-how-eq0
 returns-then-how-eq0 c =
     let a = c.args in
     rw c.if-how-eq0.true
-    (whole _ _ _ _ _ a.k a.kept a.start a.g a.gathered a.rows a.blocks _ c.requires.3 c.requires.0 c.requires.1 c.requires.4 (rw c.requires.0 at c.fill.ensures) c.fold_blocks.ensures)
+    (whole _ _ _ _ _ a.kept.extents a.kept.view a.start a.gathered.extents a.gathered.view _ c.requires.1 c.requires.2 (rw a.kept.all_rows at c.fill.ensures) c.fold_blocks.ensures)
 
 pub returns : goal.returns
 returns c =
     let a = c.args in
     rw (ne_eqb a.how 0 c.if-how-eq0.false)
-    (whole _ _ _ _ _ a.k a.kept a.start a.g a.gathered a.rows a.blocks _ c.requires.3 c.requires.0 c.requires.1 c.requires.4 (c.move_cells.ensures (pos 0)) c.fold_blocks-2.ensures)
+    (whole _ _ _ _ _ a.kept.extents a.kept.view a.start a.gathered.extents a.gathered.view _ c.requires.1 c.requires.2 (c.move_cells.ensures (pos 0)) c.fold_blocks-2.ensures)

@@ -1,6 +1,6 @@
 -- Folds over the rows of a result's grid, and over the rows of what is gathered.
 use Prim.Native.Nat.{ℕ, ◌+◌, ◌*◌, ◌≤◌, ◌<◌}
-use mathlib.Core.Path.{◌≡◌, refl}
+use mathlib.Core.Path.{◌≡◌}
 use mathlib.Core.List.{List}
 use native.Mathlib.Omega.{arith}
 use lib.ListN.{length, get_or}
@@ -27,15 +27,15 @@ module _ (k : Row) (kept : View) where
   cell_near : (i c more start : ℕ) → reach k kept + more < start → i < rows_of k → c < k.r3 → row_place k kept i + step k.r3 kept.s3 c + more < start
   cell_near i c more start near h w = omega (arith, cell_below k kept {n = reach k kept + 1} (omega arith) i c h w)
 
-  sources_near : (g : Row) (gathered : View) (start rows blocks : ℕ) → reach k kept + reach g gathered < start → rows ≡ rows_of k → blocks ≡ rows_of g
-      → (e i : ℕ) → e < rows * k.r3 → i < blocks * g.r3 → source k kept g gathered e i < start
-  sources_near g gathered start rows blocks near r b e i h q = omega (arith, place_le k kept e (rw r at h), place_le g gathered i (rw b at q))
+  sources_near : (g : Row) (gathered : View) (start : ℕ) → reach k kept + reach g gathered < start
+      → (e i : ℕ) → e < cells_of k → i < cells_of g → source k kept g gathered e i < start
+  sources_near g gathered start near e i h q = omega (arith, place_le k kept e h, place_le g gathered i q)
 
   -- and each may be taken in
-  pub sources_fit : {A : Type 0} (Fits : A → Type 0) (d : A) (l : List A) (g : Row) (gathered : View) (rows blocks : ℕ) → AllIn Fits d l kept.base (reach k kept + reach g gathered + 1)
-      → rows ≡ rows_of k → blocks ≡ rows_of g → (e i : ℕ) → e < rows * k.r3 → i < blocks * g.r3 → Fits (get_or l (source k kept g gathered e i) d)
-  sources_fit Fits d l g gathered rows blocks fit r b e i h q =
-      fit (source k kept g gathered e i) (omega (arith, base_place k kept e)) (omega (arith, place_le k kept e (rw r at h), place_le g gathered i (rw b at q)))
+  pub sources_fit : {A : Type 0} (Fits : A → Type 0) (d : A) (l : List A) (g : Row) (gathered : View) → AllIn Fits d l kept.base (reach k kept + reach g gathered + 1)
+      → (e i : ℕ) → e < cells_of k → i < cells_of g → Fits (get_or l (source k kept g gathered e i) d)
+  sources_fit Fits d l g gathered fit e i h q =
+      fit (source k kept g gathered e i) (omega (arith, base_place k kept e)) (omega (arith, place_le k kept e h, place_le g gathered i q))
 
 module _ {A : Type 0} (f : A → A → A) (d : A) (l m m' : List A) (k : Row) (kept : View) (start : ℕ) where
   -- row i of the result
@@ -49,19 +49,17 @@ module _ {A : Type 0} (f : A → A → A) (d : A) (l m m' : List A) (k : Row) (k
       (λ c j q v. omega (arith, cell_near k kept i c (far w run) start near h q, step_le w run.stride j v))
 
   -- row j of what is gathered
-  pub block_turn : (g : Row) (gathered : View) (rows j : ℕ) {run : Line} → reach k kept + reach g gathered < start → rows ≡ rows_of k → start + rows * k.r3 ≤ length l
-      → j < rows_of g → m ≡ taken f d l start (rows * k.r3) (source k kept g gathered) (j * g.r3)
-      → m' ≡ taken f d m start (rows * k.r3) (λ (e i : ℕ). place k kept e + along g.r3 run i) g.r3 → run ≡ row_line g gathered j
-      → m' ≡ taken f d l start (rows * k.r3) (source k kept g gathered) ((j + 1) * g.r3)
-  block_turn g gathered rows j near r fits h e e' at =
-      blocks_turn f d l m m' start (rows * k.r3) j g.r3 _ (λ (e i : ℕ). place k kept e + along g.r3 (row_line g gathered j) i) fits e (rw at at e')
+  pub block_turn : (g : Row) (gathered : View) (j : ℕ) {run : Line} → reach k kept + reach g gathered < start → start + cells_of k ≤ length l
+      → j < rows_of g → m ≡ taken f d l start (cells_of k) (source k kept g gathered) (j * g.r3)
+      → m' ≡ taken f d m start (cells_of k) (λ (e i : ℕ). place k kept e + along g.r3 run i) g.r3 → run ≡ row_line g gathered j
+      → m' ≡ taken f d l start (cells_of k) (source k kept g gathered) ((j + 1) * g.r3)
+  block_turn g gathered j near fits h e e' at =
+      blocks_turn f d l m m' start (cells_of k) j g.r3 _ (λ (e i : ℕ). place k kept e + along g.r3 (row_line g gathered j) i) fits e (rw at at e')
       (λ c i q v. omega (arith, place_row g gathered j i v))
-      (λ c i q v. omega (arith, place_le k kept c (rw r at q), cell_below g gathered {n = reach g gathered + 1} (omega arith) j i h v))
+      (λ c i q v. omega (arith, place_le k kept c q, cell_below g gathered {n = reach g gathered + 1} (omega arith) j i h v))
 
   -- the whole: cells begun with z, then folded
-  pub whole : (g : Row) (gathered : View) (rows blocks : ℕ) (z : ℕ → A) → reach k kept + reach g gathered < start → rows ≡ rows_of k → blocks ≡ rows_of g
-      → start + rows * k.r3 ≤ length l → m ≡ store l start (cells_of k) z → m' ≡ taken f d m start (rows * k.r3) (source k kept g gathered) (blocks * g.r3)
+  pub whole : (g : Row) (gathered : View) (z : ℕ → A) → reach k kept + reach g gathered < start → start + cells_of k ≤ length l
+      → m ≡ store l start (cells_of k) z → m' ≡ taken f d m start (cells_of k) (source k kept g gathered) (cells_of g)
       → m' ≡ store l start (cells_of k) (λ (e : ℕ). fold_from f (z e) (λ (i : ℕ). get_or l (source k kept g gathered e i) d) (cells_of g))
-  whole g gathered rows blocks z near r b fits e e' =
-      taken_after f d l m m' start (cells_of k) (cells_of g) z _ (rw r at fits) e (rw (r, b) at e')
-      (sources_near k kept g gathered start (rows_of k) (rows_of g) near refl refl)
+  whole g gathered z near fits e e' = taken_after f d l m m' start (cells_of k) (cells_of g) z _ fits e e' (sources_near k kept g gathered start near)
