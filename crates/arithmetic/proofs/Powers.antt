@@ -1,13 +1,12 @@
 -- Floored division by a power of two: shifts of the number raised by 2^31.
-use Rattle.std.proofs.Common.{◌≡◌, ℕ, ◌+◌, ◌-◌, ◌*◌, ◌/◌, ◌%◌, ◌^◌, ◌<◌, ◌≤◌, ℤ, pos, ◌+ℤ◌, ◌-ℤ◌, ◌*ℤ◌, ◌<ℤ◌, sym, refl, ap, ◌∙◌, mod-lt, one-mul, arith, pow_pos, pow_mono, pow-add, shl_exact, w64, SFits, to_z}
+use Rattle.std.proofs.Common.{◌≡◌, ℕ, ◌+◌, ◌-◌, ◌*◌, ◌/◌, ◌%◌, ◌^◌, ◌<◌, ◌≤◌, ℤ, pos, ◌+ℤ◌, ◌-ℤ◌, ◌*ℤ◌, nat_abs, ◌≤ℤ◌, ◌<ℤ◌, sym, refl, ap, ◌∙◌, mod-lt, one-mul, arith, pow_pos, pow_mono, pow-add, shl_exact, w64, SFits, to_z}
 use native.Mathlib.Nat.{div-add-mod}
 use lib.Pow.{shl-shr, shr_le}
 use lib.IntN.{*ℤ_comm}
 use mir.Facts.{to_z_pos}
-use mir.Val.{of_z}
 use Rattle.laws.specs.Integers.{floor_div, floor_mod}
 use Rattle.laws.proofs.Floor.{floor_unique_up, floor_up, mod_up}
-use Rattle.laws.proofs.Machine.{Small, read_back, read_back_is, bits_is, arith_machine}
+use Rattle.laws.proofs.Machine.{Small, read_back, read_back_is, arith_machine}
 use Rattle.laws.proofs.Parts.{arithℤ, add_parts, diff_parts, mul_parts}
 
 -- 2^31 shifted is the power that is left
@@ -84,15 +83,3 @@ module _ {x q : ℤ} {k : ℕ} (s : Small x) (h : k < 32) (f : SFits w64 x) (g :
 
   pub remainder_is : read_back (read_back x -ℤ read_back (read_back q *ℤ to_z w64 ((1 * 2 ^ k) % 18446744073709551616))) ≡ floor_mod x (pos (2 ^ k))
   remainder_is = read_back_is remainder_fits ∙ remainder
-
--- a power of two doubled
-module _ {p : ℤ} {k : ℕ} (e : p ≡ pos (2 ^ k)) (h : k < 31) where
-  pub doubled_fits : SFits w64 (p *ℤ pos 2)
-  doubled_fits = rw e (record { sfits = omega (arith, pow_mono {i = k} {j = 31} (omega arith)) })
-
-  pub doubled : read_back (p *ℤ pos 2) ≡ pos (2 ^ (k + 1))
-  doubled = read_back_is doubled_fits ∙ rw (e, pow-add 2 k 1) refl
-
--- the power whose bits are those of y
-pub power_of : {p k : ℕ} {y : ℤ} → p ≡ 2 ^ k → k ≤ 31 → SFits w64 y → p ≡ of_z w64 y → y ≡ pos (2 ^ k)
-power_of {p} {k} {y} e h f b = bits_is f (sym b ∙ e) ∙ to_z_pos w64 (omega (arith, pow_mono {i = k} {j = 31} h))

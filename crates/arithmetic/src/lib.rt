@@ -1,60 +1,107 @@
-// The binary operations on two numbers.
+// The operations on two numbers.
 #![tactic(auto)]
 
-ghost use Rattle.std.specs.Prelude.{◌≡◌, ◌^◌, ◌<◌, ◌≤◌, pos, ◌+ℤ◌, ◌*ℤ◌, if◌then◌else◌, int_lt};
-ghost use Rattle.laws.specs.Integers.{same_z, floor_div, floor_mod};
+ghost use Rattle.std.specs.Prelude.{◌≡◌, ◌^◌, ◌<◌, ℤ, pos, ◌+ℤ◌, ◌*ℤ◌, if◌then◌else◌, int_lt};
+ghost use Rattle.laws.specs.Integers.{same_z, min_z, max_z, floor_div, floor_mod};
 ghost use Rattle.laws.proofs.Machine.{Small};
-ghost use Rattle.cells.specs.Cells.{binary};
 
-// 1 where x is less than y, else 0: the highest bit of their difference, which the machine finds for several cells at once, as it does not for a
-// comparison of 64 bits.
-fn less(x: i64, y: i64) -> i64
-    requires { (Small x) × (Small y) }
-    ensures { result ≡ (if int_lt x y then pos 1 else pos 0) }
-{
-    let a = (x + 2147483648) as u64;
-    let b = (y + 2147483648) as u64;
-    (std::num::wrapping_sub_u64(a, b) >> 63) as i64
+// An operation on the numbers of three cells. Only WHERE looks at the third; it copies what it takes, and the others compute with the first two.
+pub trait Mix {
+    ghost mixed: { ℤ → ℤ → ℤ → ℤ };
+
+    fn mix(x: i64, y: i64, z: i64) -> i64
+        requires { (Small x) × (Small y) }
+        ensures { result ≡ mixed x y z };
 }
 
-// 1 where x is not y, else 0.
-fn differ(x: i64, y: i64) -> i64
-    ensures { result ≡ (if same_z x y then pos 0 else pos 1) }
-{
-    if x == y { 0 } else { 1 }
+// ADD: the sum of two numbers of 32 bits.
+pub struct Sum;
+
+impl Mix for Sum {
+    ghost mixed = { λ x y z. x +ℤ y };
+
+    fn mix(x: i64, y: i64, _z: i64) -> i64 {
+        x + y
+    }
 }
 
-// The sum of two numbers of 32 bits.
-fn plus(x: i64, y: i64) -> i64
-    requires { (Small x) × (Small y) }
-    ensures { result ≡ x +ℤ y }
-{
-    x + y
+// MUL: their product.
+pub struct Product;
+
+impl Mix for Product {
+    ghost mixed = { λ x y z. x *ℤ y };
+
+    fn mix(x: i64, y: i64, _z: i64) -> i64 {
+        x * y
+    }
 }
 
-// Their product.
-fn times(x: i64, y: i64) -> i64
-    requires { (Small x) × (Small y) }
-    ensures { result ≡ x *ℤ y }
-{
-    x * y
+// MAX, and OR of 0 and 1: the larger of the two.
+pub struct Greatest;
+
+impl Mix for Greatest {
+    ghost mixed = { λ x y z. max_z x y };
+
+    fn mix(x: i64, y: i64, _z: i64) -> i64 {
+        bounds::greatest(x, y)
+    }
 }
 
-// A binary operation on two numbers.
-pub fn apply(op: usize, x: i64, y: i64) -> i64
-    requires { (9 ≤ op) × (op < 18) × (Small x) × (Small y) }
-    ensures { result ≡ binary op x y }
-{
-    match op {
-        9 => plus(x, y),
-        10 => times(x, y),
-        11 => bounds::greatest(x, y),
-        12 => bounds::quotient(x, y),
-        13 => bounds::floor_mod(x, y),
-        14 => less(x, y),
-        15 => differ(x, y),
-        16 => bounds::least(x, y),
-        _ => bounds::greatest(x, y),
+// AND of 0 and 1: the smaller of the two.
+pub struct Least;
+
+impl Mix for Least {
+    ghost mixed = { λ x y z. min_z x y };
+
+    fn mix(x: i64, y: i64, _z: i64) -> i64 {
+        bounds::least(x, y)
+    }
+}
+
+// IDIV: the quotient, rounded down.
+pub struct Quotient;
+
+impl Mix for Quotient {
+    ghost mixed = { λ x y z. floor_div x y };
+
+    fn mix(x: i64, y: i64, _z: i64) -> i64 {
+        bounds::quotient(x, y)
+    }
+}
+
+// MOD: its remainder.
+pub struct Remainder;
+
+impl Mix for Remainder {
+    ghost mixed = { λ x y z. floor_mod x y };
+
+    fn mix(x: i64, y: i64, _z: i64) -> i64 {
+        bounds::floor_mod(x, y)
+    }
+}
+
+// CMPLT: 1 where x is less than y, else 0.
+pub struct Less;
+
+impl Mix for Less {
+    ghost mixed = { λ x y z. if int_lt x y then pos 1 else pos 0 };
+
+    // The highest bit of their difference, which the machine finds for several cells at once, as it does not for a comparison of 64 bits.
+    fn mix(x: i64, y: i64, _z: i64) -> i64 {
+        let a = (x + 2147483648) as u64;
+        let b = (y + 2147483648) as u64;
+        (a.wrapping_sub(b) >> 63) as i64
+    }
+}
+
+// CMPNE: 1 where x is not y, else 0.
+pub struct Different;
+
+impl Mix for Different {
+    ghost mixed = { λ x y z. if same_z x y then pos 0 else pos 1 };
+
+    fn mix(x: i64, y: i64, _z: i64) -> i64 {
+        if x == y { 0 } else { 1 }
     }
 }
 
@@ -62,13 +109,8 @@ pub fn apply(op: usize, x: i64, y: i64) -> i64
 pub fn exponent(y: i64) -> u32
     ensures { result < 32 → y ≡ pos (2 ^ result) }
 {
-    let mut k: u32 = 0;
-    let mut power: i64 = 1;
-    while (k < 31) & (power < y) {
-        power *= 2;
-        k += 1;
-    }
-    if power == y { k } else { 32 }
+    let k = y.trailing_zeros();
+    if k < 32 && y == 1 << k { k } else { 32 }
 }
 
 // The quotient of a number by 2^k, rounded down: the number raised by 2^31, which 2^k divides, and shifted.
@@ -89,15 +131,21 @@ fn low_bits(x: i64, k: u32) -> i64
     x - (shifted(x, k) * (1 << k))
 }
 
-// IDIV or MOD by 2^k.
-#[tactic(auto, using(crate::proofs::Arms::power_quotient, crate::proofs::Arms::power_remainder))]
-pub fn by_power(op: usize, x: i64, k: u32) -> i64
-    requires { (12 ≤ op) × (op < 14) × (Small x) × (k < 32) }
-    ensures { result ≡ binary op x (pos (2 ^ k)) }
-{
-    if op == 12 {
+// An operation whose second number may be a power of two, given by its exponent.
+pub trait ByPower: Mix {
+    fn by_power(x: i64, k: u32) -> i64
+        requires { (Small x) × (k < 32) }
+        ensures { (z : ℤ) → result ≡ Self.mixed x (pos (2 ^ k)) z };
+}
+
+impl ByPower for Quotient {
+    fn by_power(x: i64, k: u32) -> i64 {
         shifted(x, k)
-    } else {
+    }
+}
+
+impl ByPower for Remainder {
+    fn by_power(x: i64, k: u32) -> i64 {
         low_bits(x, k)
     }
 }

@@ -1,5 +1,5 @@
 use Rattle.laws.proofs.Machine.{read_mul_fits, read_mul}
-use Rattle.arithmetic.proofs.times.Goals as goal
+use Rattle.arithmetic.proofs.ProductMix.mix.Goals as goal
 
 pub overflow_mul-result : goal.overflow_mul-result
 overflow_mul-result c = read_mul_fits c.requires.0 c.requires.1
