@@ -1,3 +1,2 @@
-pub mod Choosing
 pub mod Clearing
 pub mod Rows

@@ -1,12 +1,11 @@
 -- The flags that a binary operation and WHERE leave in their buffer, 1 known, 0 a gap; and numbers under flags.
-use Rattle.std.specs.Prelude.{ℕ, ◌≡◌, ◌&&◌, cond, List, eqb, ℤ, pos, get_or}
+use Rattle.std.specs.Prelude.{ℕ, ◌&&◌, cond, List, eqb, ℤ, pos, get_or}
 use Rattle.laws.specs.Integers.{same_z}
 use Rattle.laws.specs.Store.{store}
 use Rattle.plan.specs.declared.Row.{Row}
 use Rattle.plan.specs.Operations.{WHERE}
 use Rattle.views.specs.declared.View.{View}
 use Rattle.views.specs.Views.{cells_of, place}
-use Rattle.validity.specs.declared.Sides.{Sides}
 
 -- the flag of the result, from three cells; a binary operation looks at two
 unfoldable pub mix_flag : ℕ → ℤ → ℕ → ℤ → ℕ → ℤ → ℕ → ℕ
@@ -18,17 +17,6 @@ side_of x = cond (same_z x (pos 0)) 0 1
 
 abbrev pub side_flag : ℕ → ℕ → ℕ → ℕ → ℕ
 side_flag s f g h = cond (eqb f 1) (cond (eqb s 0) h g) 0
-
--- eight sides are those of f
-pub record AreSides (f : ℕ → ℕ) (s : Sides) : Type 0 where
-  pub at0 : s.s0 ≡ f 0
-  pub at1 : s.s1 ≡ f 1
-  pub at2 : s.s2 ≡ f 2
-  pub at3 : s.s3 ≡ f 3
-  pub at4 : s.s4 ≡ f 4
-  pub at5 : s.s5 ≡ f 5
-  pub at6 : s.s6 ≡ f 6
-  pub at7 : s.s7 ≡ f 7
 
 -- from the side at place t and the flags at three places
 abbrev pub chosen_flag : List ℕ → ℕ → ℕ → ℕ → ℕ → ℕ

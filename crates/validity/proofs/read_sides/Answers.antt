@@ -1,17 +1,14 @@
-use mathlib.Core.Path.{refl, ◌∙◌}
-use native.Mathlib.Omega.{arith}
-use Rattle.validity.proofs.Rows.{side_read}
+use Rattle.std.proofs.Common.{rules, ◌∙◌, refl, zero-add}
+use Rattle.laws.proofs.Machine.{read_back_is}
+use Rattle.laws.proofs.Store.{store_none, store_step, store_done}
+use Rattle.validity.proofs.Rows.{whole, side_read}
 use Rattle.validity.proofs.read_sides.Goals as goal
 
+pub loop-i-init : goal.loop-i-init
+loop-i-init c = store_none _ _ _
+
+pub loop-i-preserved : goal.loop-i-preserved
+loop-i-preserved c = rw zero-add at (store_step _ _ _ _ _ _ c.loop-i.invariant (c.side.ensures ∙ side_read c.args.values.now (read_back_is (search rules)) refl))
+
 pub returns : goal.returns
-returns c =
-    record {
-      at0 = c.side_at.ensures ∙ side_read c.args.values.now refl (omega arith);
-      at1 = c.side_at-2.ensures;
-      at2 = c.side_at-3.ensures;
-      at3 = c.side_at-4.ensures;
-      at4 = c.side_at-5.ensures;
-      at5 = c.side_at-6.ensures;
-      at6 = c.side_at-7.ensures;
-      at7 = c.side_at-8.ensures;
-    }
+returns c = store_done _ _ _ c.loop-i.i 8 _ c.loop-i.invariant c.loop-i.auto.i-end c.loop-i-test.false ∙ whole _ 0 _ 8 refl

@@ -1,13 +1,9 @@
-use Prim.Native.Nat.{ℕ, ◌+◌, ◌-◌, ◌≤◌}
+use Prim.Native.Nat.{ℕ, ◌+◌}
 use mathlib.Core.Path.{◌≡◌}
-use lib.ListN.{length}
 use Rattle.laws.specs.Store.{store}
-use Rattle.views.specs.Views.{step}
 use Rattle.validity.specs.Flags.{chosen_flag}
+use Rattle.validity.specs.Lines.{cell_place}
 use Rattle.validity.proofs.row_chosen.Given as goal
 
 abbrev pub invariant-loop-i : goal.invariant-loop-i
-invariant-loop-i l = (l.i ≤ l.n) × (length l.flags ≡ length l.initial.flags) × (l.flags ≡ store l.initial.flags l.to l.i (λ (j : ℕ). chosen_flag l.initial.flags (l.to + j) (l.p + step l.n l.a j) (l.q + step l.n l.b j) (l.u + step l.n l.d j)))
-
-abbrev pub decreases-loop-i : goal.decreases-loop-i
-decreases-loop-i l = l.n - l.i
+invariant-loop-i l = l.flags ≡ store l.initial.flags l.to l.i (λ (j : ℕ). chosen_flag l.initial.flags (l.to + j) (cell_place l.n l.lines.a j) (cell_place l.n l.lines.b j) (cell_place l.n l.lines.d j))

@@ -1,30 +1,19 @@
-use mathlib.Core.Path.{refl, ◌∙◌}
-use native.Mathlib.Omega.{arith}
-use lib.IntN.{pos}
-use lib.ListN.{length-set}
-use Rattle.laws.proofs.Store.{store_none, store_step, store_done}
+use Rattle.std.proofs.Common.{rules, ◌∙◌, ap, pos}
+use lib.ListN.{get_or}
 use Rattle.laws.proofs.Machine.{read_back_is}
+use Rattle.plan.specs.Coded.{number_of}
 use Rattle.validity.specs.Flags.{mix_flag}
-use Rattle.validity.proofs.Rows.{kept, kept_all, three_read}
-use borrow.Author.Rules.{rules}
+use Rattle.laws.proofs.Store.{store_none, store_step}
+use Rattle.validity.proofs.Rows.{kept, cells_kept, along_read}
 use Rattle.validity.proofs.row_flags.Goals as goal
 
 pub loop-i-init : goal.loop-i-init
-loop-i-init c = (search rules, refl, store_none _ _ _)
+loop-i-init c = store_none _ _ _
 
 pub loop-i-preserved : goal.loop-i-preserved
 loop-i-preserved c =
     let a = c.args in
-    let first = c.step_at.ensures in
-    let second = c.step_at-in-loop-i.ensures in
-    let third = c.step_at-in-loop-i-2.ensures in
-    let v = kept 0 _ _ _ _ _ c.loop-i.invariant.2 in (
-      omega (arith, c.loop-i-test.true),
-      rw length-set c.loop-i.invariant.1,
-      store_step _ _ _ _ _ _ c.loop-i.invariant.2
-          (c.mix_flag.ensures _ _
-          ∙ three_read (kept_all (pos 0) a.values.now a.to) v (mix_flag a.op) (omega (arith, first)) (omega (arith, second)) (omega (arith, third)) (omega (arith, first, c.requires)) (omega (arith, second, c.requires)) (omega (arith, third, c.requires)) (read_back_is (search rules)) refl refl),
-    )
-
-pub returns : goal.returns
-returns c = store_done _ _ _ _ _ _ c.loop-i.invariant.2 (search rules) (search rules)
+    let l = c.loop-i in
+    let e = c.read-f.ensures 0 ∙ cells_kept (kept 0 _ _ _ _ _ l.invariant) a.lines a.n l.i c.requires.0 c.loop-i-test.true in
+    store_step _ _ _ _ _ _ l.invariant
+    (c.mix_flag.ensures _ _ ∙ along_read (mix_flag (number_of a.op)) a.values.now a.flags.now a.lines a.n l.i (read_back_is (search rules) ∙ ap (λ k. get_or a.values.now k (pos 0)) c.at.ensures.0) e)
