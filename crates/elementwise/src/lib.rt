@@ -2,250 +2,158 @@
 // in the gaps.
 #![tactic(auto)]
 
-ghost use Rattle.std.specs.Prelude.{◌≡◌, true, ℕ, ◌+◌, ◌*◌, ◌^◌, ◌≤◌, ◌<◌, pos, length, get_or};
+ghost use Rattle.std.specs.Prelude.{◌≡◌, true, ℕ, ◌+◌, ◌*◌, ◌^◌, ◌≤◌, ◌<◌, ℤ, pos, length, get_or, if◌then◌else◌};
+ghost use Rattle.laws.specs.Integers.{same_z};
 ghost use Rattle.laws.specs.Store.{store};
-ghost use Rattle.laws.proofs.Machine.{Small};
-ghost use Rattle.views.specs.Views.{stride_of, step, span, rows_of, reach};
+ghost use Rattle.plan.specs.Coded.{number_of};
+ghost use Rattle.views.specs.Views.{rows_of, reach};
 ghost use Rattle.views.specs.Numbers.{SmallSeen};
-ghost use Rattle.cells.specs.Cells.{binary};
-ghost use Rattle.validity.specs.Flags.{mix_flag, three, mixed_flags};
-ghost use Rattle.elementwise.specs.Mixing.{plain_value, mix_value, plain_at, mixed_values, SmallAlong};
+ghost use Rattle.validity.specs.Flags.{mix_flag, mixed_flags};
+ghost use Rattle.validity.specs.Lines.{Before, along, cell_place, last_place};
+ghost use Rattle.elementwise.specs.Mixing.{Mixes, plain_value, mix_value, numbers_along, mixed_values, SmallAlong, Sources, Rising, lines_from};
 
-use plan::Row;
-use views::{Stride, View};
+use arithmetic::{
+    ByPower, Different, Greatest, Least, Less, Mix, Product, Quotient, Remainder, Sum,
+};
+use plan::{Operation, Row};
+use validity::Lines;
+use views::{Line, View};
 
-// The number of a result cell, whatever the flags are.
-#[tactic(auto, using(crate::proofs::Sides::where_zero, crate::proofs::Sides::where_other))]
-fn plain_value(op: usize, x: i64, y: i64, z: i64) -> i64
-    requires { (9 ≤ op) × (op < 19) × (Small x) × (Small y) }
-    ensures { result ≡ plain_value op x y z }
-{
-    if op == 18 {
-        if x == 0 {
-            return z;
-        }
-        return y;
-    }
-    arithmetic::apply(op, x, y)
-}
+// WHERE: the second number where the first is not 0, else the third.
+struct Chosen;
 
-// The numbers of a row. It is called with an operation and strides written out, so that each is a loop of its own.
-fn row_values(
-    values: &mut [i64],
-    op: usize,
-    n: usize,
-    p: usize,
-    a: Stride,
-    q: usize,
-    b: Stride,
-    u: usize,
-    d: Stride,
-    to: usize,
-)
-    requires { (9 ≤ op) × (op < 19) × (p + span n a < to) × (q + span n b < to) × (u + span n d < to) × (to + n ≤ length values.old) × SmallAlong values.old n p a × SmallAlong values.old n q b }
-    ensures { values.new ≡ store values.old to n (λ (j : ℕ). plain_at op values.old (p + step n a j) (q + step n b j) (u + step n d j)) }
-{
-    let mut i = 0;
-    while i < n {
-        let k = p + views::step_at(n, a, i);
-        let l = q + views::step_at(n, b, i);
-        let m = u + views::step_at(n, d, i);
-        let x = values[k];
-        let y = values[l];
-        let z = values[m];
-        values[to + i] = plain_value(op, x, y, z);
-        i += 1;
+impl Mix for Chosen {
+    ghost mixed = { λ x y z. if same_z x (pos 0) then z else y };
+
+    fn mix(x: i64, y: i64, z: i64) -> i64 {
+        if x == 0 { z } else { y }
     }
 }
 
-// The numbers of a row where each view goes from place to place.
-fn unit_values(values: &mut [i64], op: usize, n: usize, p: usize, q: usize, u: usize, to: usize)
-    requires { (9 ≤ op) × (op < 19) × (p + span n (stride_of 1 0) < to) × (q + span n (stride_of 1 0) < to) × (u + span n (stride_of 1 0) < to) × (to + n ≤ length values.old) × SmallAlong values.old n p (stride_of 1 0) × SmallAlong values.old n q (stride_of 1 0) }
-    ensures { values.new ≡ store values.old to n (λ (j : ℕ). plain_at op values.old (p + step n (stride_of 1 0) j) (q + step n (stride_of 1 0) j) (u + step n (stride_of 1 0) j)) }
+// The numbers of a row. It is called with steps written out, so that each operation has a loop of its own for them.
+fn row_values<M: Mix>(values: &mut [i64], lines: Lines, n: usize, to: usize)
+    requires { Sources values.old lines n to × (to + n ≤ length values.old) }
+    ensures { values.new ≡ store values.old to n (λ (j : ℕ). numbers_along M.mixed values.old lines n j) }
 {
-    let one = Stride { up: 1, down: 0 };
-    match op {
-        9 => row_values(values, 9, n, p, one, q, one, u, one, to),
-        10 => row_values(values, 10, n, p, one, q, one, u, one, to),
-        11 => row_values(values, 11, n, p, one, q, one, u, one, to),
-        12 => row_values(values, 12, n, p, one, q, one, u, one, to),
-        13 => row_values(values, 13, n, p, one, q, one, u, one, to),
-        14 => row_values(values, 14, n, p, one, q, one, u, one, to),
-        15 => row_values(values, 15, n, p, one, q, one, u, one, to),
-        16 => row_values(values, 16, n, p, one, q, one, u, one, to),
-        17 => row_values(values, 17, n, p, one, q, one, u, one, to),
-        _ => row_values(values, 18, n, p, one, q, one, u, one, to),
+    for i in 0..n {
+        let (x, y, z) = lines.read(values, n, i);
+        values[to + i] = M::mix(x, y, z);
     }
 }
 
-// The numbers of a row where only the first view goes on, and the others stay.
-fn left_values(values: &mut [i64], op: usize, n: usize, p: usize, q: usize, u: usize, to: usize)
-    requires { (9 ≤ op) × (op < 19) × (p + span n (stride_of 1 0) < to) × (q + span n (stride_of 0 0) < to) × (u + span n (stride_of 0 0) < to) × (to + n ≤ length values.old) × SmallAlong values.old n p (stride_of 1 0) × SmallAlong values.old n q (stride_of 0 0) }
-    ensures { values.new ≡ store values.old to n (λ (j : ℕ). plain_at op values.old (p + step n (stride_of 1 0) j) (q + step n (stride_of 0 0) j) (u + step n (stride_of 0 0) j)) }
+// The same, where each line goes from place to place, where only the first does and the others stay, where only the first stays, and in other ways.
+fn values_by_steps<M: Mix>(values: &mut [i64], lines: Lines, n: usize, to: usize)
+    requires { Sources values.old lines n to × (to + n ≤ length values.old) }
+    ensures { values.new ≡ store values.old to n (λ (j : ℕ). numbers_along M.mixed values.old lines n j) }
 {
-    let one = Stride { up: 1, down: 0 };
-    let none = Stride { up: 0, down: 0 };
-    match op {
-        9 => row_values(values, 9, n, p, one, q, none, u, none, to),
-        10 => row_values(values, 10, n, p, one, q, none, u, none, to),
-        11 => row_values(values, 11, n, p, one, q, none, u, none, to),
-        12 => row_values(values, 12, n, p, one, q, none, u, none, to),
-        13 => row_values(values, 13, n, p, one, q, none, u, none, to),
-        14 => row_values(values, 14, n, p, one, q, none, u, none, to),
-        15 => row_values(values, 15, n, p, one, q, none, u, none, to),
-        16 => row_values(values, 16, n, p, one, q, none, u, none, to),
-        17 => row_values(values, 17, n, p, one, q, none, u, none, to),
-        _ => row_values(values, 18, n, p, one, q, none, u, none, to),
+    if lines.are_stepping(1, 1) {
+        row_values::<M>(values, lines.stepping(1, 1), n, to);
+    } else if lines.are_stepping(1, 0) {
+        row_values::<M>(values, lines.stepping(1, 0), n, to);
+    } else if lines.are_stepping(0, 1) {
+        row_values::<M>(values, lines.stepping(0, 1), n, to);
+    } else {
+        row_values::<M>(values, lines, n, to);
     }
 }
 
-// The numbers of a row where only the first view stays.
-fn right_values(values: &mut [i64], op: usize, n: usize, p: usize, q: usize, u: usize, to: usize)
-    requires { (9 ≤ op) × (op < 19) × (p + span n (stride_of 0 0) < to) × (q + span n (stride_of 1 0) < to) × (u + span n (stride_of 1 0) < to) × (to + n ≤ length values.old) × SmallAlong values.old n p (stride_of 0 0) × SmallAlong values.old n q (stride_of 1 0) }
-    ensures { values.new ≡ store values.old to n (λ (j : ℕ). plain_at op values.old (p + step n (stride_of 0 0) j) (q + step n (stride_of 1 0) j) (u + step n (stride_of 1 0) j)) }
+// The numbers along a line divided by 2^k.
+fn power_values<P: ByPower>(values: &mut [i64], line: Line, k: u32, n: usize, to: usize)
+    requires { (k < 32) × (last_place n line < to) × (to + n ≤ length values.old) × SmallAlong values.old n line }
+    ensures { (z : ℕ → ℤ) → values.new ≡ store values.old to n (λ (j : ℕ). P.mixed (get_or values.old (cell_place n line j) (pos 0)) (pos (2 ^ k)) (z j)) }
 {
-    let one = Stride { up: 1, down: 0 };
-    let none = Stride { up: 0, down: 0 };
-    match op {
-        9 => row_values(values, 9, n, p, none, q, one, u, one, to),
-        10 => row_values(values, 10, n, p, none, q, one, u, one, to),
-        11 => row_values(values, 11, n, p, none, q, one, u, one, to),
-        12 => row_values(values, 12, n, p, none, q, one, u, one, to),
-        13 => row_values(values, 13, n, p, none, q, one, u, one, to),
-        14 => row_values(values, 14, n, p, none, q, one, u, one, to),
-        15 => row_values(values, 15, n, p, none, q, one, u, one, to),
-        16 => row_values(values, 16, n, p, none, q, one, u, one, to),
-        17 => row_values(values, 17, n, p, none, q, one, u, one, to),
-        _ => row_values(values, 18, n, p, none, q, one, u, one, to),
+    for i in 0..n {
+        values[to + i] = P::by_power(values[line.at(n, i)], k);
     }
 }
 
-// The numbers of a row divided by 2^k.
-fn power_values(values: &mut [i64], op: usize, n: usize, p: usize, k: u32, to: usize)
-    requires { (12 ≤ op) × (op < 14) × (k < 32) × (p + span n (stride_of 1 0) < to) × (to + n ≤ length values.old) × SmallAlong values.old n p (stride_of 1 0) }
-    ensures { values.new ≡ store values.old to n (λ (j : ℕ). binary op (get_or values.old (p + step n (stride_of 1 0) j) (pos 0)) (pos (2 ^ k))) }
+// The same; divided by one power of two they are shifted.
+fn divided_values<P: ByPower>(values: &mut [i64], lines: Lines, n: usize, to: usize)
+    requires { Sources values.old lines n to × (to + n ≤ length values.old) }
+    ensures { values.new ≡ store values.old to n (λ (j : ℕ). numbers_along P.mixed values.old lines n j) }
 {
-    let mut i = 0;
-    while i < n {
-        let x = values[p + i];
-        values[to + i] = arithmetic::by_power(op, x, k);
-        i += 1;
-    }
-}
-
-// Those of left_values; divided by a power of two they are shifted.
-fn left_row(values: &mut [i64], op: usize, n: usize, p: usize, q: usize, u: usize, to: usize)
-    requires { (9 ≤ op) × (op < 19) × (p + span n (stride_of 1 0) < to) × (q + span n (stride_of 0 0) < to) × (u + span n (stride_of 0 0) < to) × (to + n ≤ length values.old) × SmallAlong values.old n p (stride_of 1 0) × SmallAlong values.old n q (stride_of 0 0) }
-    ensures { values.new ≡ store values.old to n (λ (j : ℕ). plain_at op values.old (p + step n (stride_of 1 0) j) (q + step n (stride_of 0 0) j) (u + step n (stride_of 0 0) j)) }
-{
-    if (op == 12) | (op == 13) {
-        let y = values[q];
-        let k = arithmetic::exponent(y);
+    if lines.are_stepping(1, 0) {
+        let k = arithmetic::exponent(values[lines.b.place]);
         if k < 32 {
-            power_values(values, op, n, p, k, to);
+            power_values::<P>(values, Line::unit(lines.a.place), k, n, to);
             return;
         }
     }
-    left_values(values, op, n, p, q, u, to);
+    values_by_steps::<P>(values, lines, n, to);
 }
 
-// The numbers of a row, by its strides.
-fn plain_row(
-    values: &mut [i64],
-    op: usize,
-    n: usize,
-    p: usize,
-    a: Stride,
-    q: usize,
-    b: Stride,
-    u: usize,
-    d: Stride,
-    to: usize,
-)
-    requires { (9 ≤ op) × (op < 19) × (p + span n a < to) × (q + span n b < to) × (u + span n d < to) × (to + n ≤ length values.old) × SmallAlong values.old n p a × SmallAlong values.old n q b }
-    ensures { values.new ≡ store values.old to n (λ (j : ℕ). plain_at op values.old (p + step n a j) (q + step n b j) (u + step n d j)) }
+// The numbers of a row, by the operation.
+fn plain_row(values: &mut [i64], op: Operation, lines: Lines, n: usize, to: usize)
+    requires { Mixes op × Sources values.old lines n to × (to + n ≤ length values.old) }
+    ensures { values.new ≡ store values.old to n (λ (j : ℕ). numbers_along (plain_value (number_of op)) values.old lines n j) }
 {
-    if validity::same_strides(a, b, d, 1, 1) {
-        unit_values(values, op, n, p, q, u, to);
-        return;
+    match op {
+        Operation::Add => values_by_steps::<Sum>(values, lines, n, to),
+        Operation::Mul => values_by_steps::<Product>(values, lines, n, to),
+        Operation::Max | Operation::Or => values_by_steps::<Greatest>(values, lines, n, to),
+        Operation::Idiv => divided_values::<Quotient>(values, lines, n, to),
+        Operation::Mod => divided_values::<Remainder>(values, lines, n, to),
+        Operation::CmpLt => values_by_steps::<Less>(values, lines, n, to),
+        Operation::CmpNe => values_by_steps::<Different>(values, lines, n, to),
+        Operation::And => values_by_steps::<Least>(values, lines, n, to),
+        _ => values_by_steps::<Chosen>(values, lines, n, to),
     }
-    if validity::same_strides(a, b, d, 1, 0) {
-        left_row(values, op, n, p, q, u, to);
-        return;
-    }
-    if validity::same_strides(a, b, d, 0, 1) {
-        right_values(values, op, n, p, q, u, to);
-        return;
-    }
-    row_values(values, op, n, p, a, q, b, u, d, to);
 }
 
 // The cells of a row.
-fn mix_row(
-    values: &mut [i64],
-    flags: &mut [u8],
-    op: usize,
-    n: usize,
-    p: usize,
-    a: Stride,
-    q: usize,
-    b: Stride,
-    u: usize,
-    d: Stride,
-    to: usize,
-)
-    requires { (9 ≤ op) × (op < 19) × (p + span n a < to) × (q + span n b < to) × (u + span n d < to) × (to + n ≤ length values.old) × (to + n ≤ length flags.old) × SmallAlong values.old n p a × SmallAlong values.old n q b }
-    ensures { (values.new ≡ store values.old to n (λ (j : ℕ). three (mix_value op) values.old flags.old (p + step n a j) (q + step n b j) (u + step n d j))) × (flags.new ≡ store flags.old to n (λ (j : ℕ). three (mix_flag op) values.old flags.old (p + step n a j) (q + step n b j) (u + step n d j))) }
+fn mix_row(values: &mut [i64], flags: &mut [u8], op: Operation, lines: Lines, n: usize, to: usize)
+    requires { Mixes op × Sources values.old lines n to × (to + n ≤ length values.old) × (to + n ≤ length flags.old) }
+    ensures { (values.new ≡ store values.old to n (λ (j : ℕ). along (mix_value (number_of op)) values.old flags.old lines n j)) × (flags.new ≡ store flags.old to n (λ (j : ℕ). along (mix_flag (number_of op)) values.old flags.old lines n j)) }
 {
-    validity::mix_row_flags(values, flags, op, n, p, a, q, b, u, d, to);
-    plain_row(values, op, n, p, a, q, b, u, d, to);
-    if op == 18 {
-        validity::clear_row(values, flags, n, p, a, to);
-        return;
+    validity::mix_row_flags(values, flags, op, lines, n, to);
+    plain_row(values, op, lines, n, to);
+    match op {
+        Operation::Where => validity::clear_row(values, flags, lines.a, n, to),
+        _ => validity::clear_own(values, flags, n, to),
     }
-    validity::clear_own(values, flags, n, to);
 }
 
-// None of three strides goes down.
-fn rising(a: Stride, b: Stride, d: Stride) -> bool
-    ensures { result ≡ true → (a.down ≡ 0) × (b.down ≡ 0) × (d.down ≡ 0) }
+// No line goes down.
+fn rising(lines: Lines) -> bool
+    ensures { result ≡ true → Rising lines }
 {
-    (a.down == 0) & ((b.down == 0) & (d.down == 0))
+    (lines.a.stride.down == 0) & ((lines.b.stride.down == 0) & (lines.d.stride.down == 0))
 }
 
-// The next part of what is left of a row.
-fn part(left: usize) -> usize
-    requires { 0 < left }
-    ensures { (0 < result) × (result ≤ left) }
+// Lines of n cells from cell i on.
+fn lines_from(lines: Lines, n: usize, i: usize) -> Lines
+    requires { Before lines n (2 ^ 64) × (i < n) }
+    ensures { result ≡ lines_from lines n i }
 {
-    if left < 1024 { left } else { 1024 }
+    let Lines { a, b, d } = lines;
+    let k = a.at(n, i);
+    let l = b.at(n, i);
+    let m = d.at(n, i);
+    Lines {
+        a: Line {
+            place: k,
+            stride: a.stride,
+        },
+        b: Line {
+            place: l,
+            stride: b.stride,
+        },
+        d: Line {
+            place: m,
+            stride: d.stride,
+        },
+    }
 }
 
 // The cells of a row in parts of 1024: what one loop leaves in the nearest cache the next finds there.
-fn mix_parts(
-    values: &mut [i64],
-    flags: &mut [u8],
-    op: usize,
-    n: usize,
-    p: usize,
-    a: Stride,
-    q: usize,
-    b: Stride,
-    u: usize,
-    d: Stride,
-    to: usize,
-)
-    requires { (a.down ≡ 0) × (b.down ≡ 0) × (d.down ≡ 0) × (9 ≤ op) × (op < 19) × (p + span n a < to) × (q + span n b < to) × (u + span n d < to) × (to + n ≤ length values.old) × (to + n ≤ length flags.old) × SmallAlong values.old n p a × SmallAlong values.old n q b }
-    ensures { (values.new ≡ store values.old to n (λ (j : ℕ). three (mix_value op) values.old flags.old (p + step n a j) (q + step n b j) (u + step n d j))) × (flags.new ≡ store flags.old to n (λ (j : ℕ). three (mix_flag op) values.old flags.old (p + step n a j) (q + step n b j) (u + step n d j))) }
+fn mix_parts(values: &mut [i64], flags: &mut [u8], op: Operation, lines: Lines, n: usize, to: usize)
+    requires { Rising lines × Mixes op × Sources values.old lines n to × (to + n ≤ length values.old) × (to + n ≤ length flags.old) }
+    ensures { (values.new ≡ store values.old to n (λ (j : ℕ). along (mix_value (number_of op)) values.old flags.old lines n j)) × (flags.new ≡ store flags.old to n (λ (j : ℕ). along (mix_flag (number_of op)) values.old flags.old lines n j)) }
 {
-    let mut i = 0;
-    while i < n {
-        let m = part(n - i);
-        let k = p + i * a.up;
-        let l = q + i * b.up;
-        let o = u + i * d.up;
-        mix_row(values, flags, op, m, k, a, l, b, o, d, to + i);
-        i += m;
+    for part in 0..n.div_ceil(1024) {
+        let i = part * 1024;
+        let m = (n - i).min(1024);
+        mix_row(values, flags, op, lines_from(lines, n, i), m, to + i);
     }
 }
 
@@ -253,31 +161,26 @@ fn mix_parts(
 fn mix_long_row(
     values: &mut [i64],
     flags: &mut [u8],
-    op: usize,
+    op: Operation,
+    lines: Lines,
     n: usize,
-    p: usize,
-    a: Stride,
-    q: usize,
-    b: Stride,
-    u: usize,
-    d: Stride,
     to: usize,
 )
-    requires { (9 ≤ op) × (op < 19) × (p + span n a < to) × (q + span n b < to) × (u + span n d < to) × (to + n ≤ length values.old) × (to + n ≤ length flags.old) × SmallAlong values.old n p a × SmallAlong values.old n q b }
-    ensures { (values.new ≡ store values.old to n (λ (j : ℕ). three (mix_value op) values.old flags.old (p + step n a j) (q + step n b j) (u + step n d j))) × (flags.new ≡ store flags.old to n (λ (j : ℕ). three (mix_flag op) values.old flags.old (p + step n a j) (q + step n b j) (u + step n d j))) }
+    requires { Mixes op × Sources values.old lines n to × (to + n ≤ length values.old) × (to + n ≤ length flags.old) }
+    ensures { (values.new ≡ store values.old to n (λ (j : ℕ). along (mix_value (number_of op)) values.old flags.old lines n j)) × (flags.new ≡ store flags.old to n (λ (j : ℕ). along (mix_flag (number_of op)) values.old flags.old lines n j)) }
 {
-    if rising(a, b, d) {
-        mix_parts(values, flags, op, n, p, a, q, b, u, d, to);
-        return;
+    if rising(lines) {
+        mix_parts(values, flags, op, lines, n, to);
+    } else {
+        mix_row(values, flags, op, lines, n, to);
     }
-    mix_row(values, flags, op, n, p, a, q, b, u, d, to);
 }
 
 // The cells of every row of three views.
 pub fn mix(
     values: &mut [i64],
     flags: &mut [u8],
-    op: usize,
+    op: Operation,
     g: Row,
     a: View,
     b: View,
@@ -285,18 +188,16 @@ pub fn mix(
     rows: usize,
     start: usize,
 )
-    requires { (9 ≤ op) × (op < 19) × (rows ≡ rows_of g) × (reach g a < start) × (reach g b < start) × (reach g d < start) × (start + rows * g.r3 ≤ length values.old) × (start + rows * g.r3 ≤ length flags.old) × SmallSeen values.old g a × SmallSeen values.old g b }
-    ensures { (values.new ≡ mixed_values op values.old flags.old g a b d start) × (flags.new ≡ mixed_flags op values.old flags.old g a b d start) }
+    requires { Mixes op × (rows ≡ rows_of g) × (reach g a < start) × (reach g b < start) × (reach g d < start) × (start + rows * g.r3 ≤ length values.old) × (start + rows * g.r3 ≤ length flags.old) × SmallSeen values.old g a × SmallSeen values.old g b }
+    ensures { (values.new ≡ mixed_values (number_of op) values.old flags.old g a b d start) × (flags.new ≡ mixed_flags (number_of op) values.old flags.old g a b d start) }
 {
     let n = g.r3;
-    let mut i = 0;
-    let mut to = start;
-    while i < rows {
-        let p = views::row_place(g, a, i);
-        let q = views::row_place(g, b, i);
-        let u = views::row_place(g, d, i);
-        mix_long_row(values, flags, op, n, p, a.s3, q, b.s3, u, d.s3, to);
-        to += n;
-        i += 1;
+    for i in 0..rows {
+        let lines = Lines {
+            a: a.row(g, i),
+            b: b.row(g, i),
+            d: d.row(g, i),
+        };
+        mix_long_row(values, flags, op, lines, n, start + i * n);
     }
 }

@@ -26,7 +26,7 @@ use Rattle.views.proofs.RowPlaces.{place_row, cell_below}
 use Rattle.views.proofs.Steps.{step_le}
 use Rattle.validity.specs.Flags.{mix_flag, side_of, side_flag, chosen_flag, three}
 use Rattle.validity.specs.declared.Lines.{Lines}
-use Rattle.validity.specs.Lines.{Before, along, cell_place}
+use Rattle.validity.specs.Lines.{row_lines, Before, along, cell_place}
 
 -- m has what l has before place s
 pub record Kept {A : Type 0} (d : A) (l m : List A) (s : ℕ) : Type 0 where
@@ -45,16 +45,19 @@ module _ {vs ws : List ℤ} {s : ℕ} (v : Kept (pos 0) vs ws s) where
     pub three_kept : (p q u : ℕ) → p < s → q < s → u < s → three F ws gs p q u ≡ three F vs fs p q u
     three_kept p q u hp hq hu = rw (v.at p hp, f.at p hp, v.at q hq, f.at q hq, v.at u hu, f.at u hu)
 
-    -- after i rows, row i at `to`, whose cells are those from p, q and u on
-    pub mix_turn : (g : Row) (a b d : View) (l m end : List C) (i : ℕ) {p q u to : ℕ} → reach g a < s → reach g b < s → reach g d < s → i < rows_of g
+    pub along_kept : (r : Lines) (n i : ℕ) → Before r n s → i < n → along F ws gs r n i ≡ along F vs fs r n i
+    along_kept r n i h w =
+        three_kept _ _ _ (omega (arith, step_le n r.a.stride i w, h.a)) (omega (arith, step_le n r.b.stride i w, h.b)) (omega (arith, step_le n r.d.stride i w, h.d))
+
+    -- after i rows, row i
+    pub mix_turn : (g : Row) (a b d : View) (l m end : List C) (i : ℕ) → reach g a < s → reach g b < s → reach g d < s → i < rows_of g
         → m ≡ store l s (i * g.r3) (λ (j : ℕ). three F vs fs (place g a j) (place g b j) (place g d j))
-        → end ≡ store m to g.r3 (λ (c : ℕ). three F ws gs (p + step g.r3 a.s3 c) (q + step g.r3 b.s3 c) (u + step g.r3 d.s3 c))
-        → to ≡ s + i * g.r3 → p ≡ row_place g a i → q ≡ row_place g b i → u ≡ row_place g d i
+        → end ≡ store m (s + i * g.r3) g.r3 (λ (c : ℕ). along F ws gs (row_lines g a b d i) g.r3 c)
         → end ≡ store l s ((i + 1) * g.r3) (λ (j : ℕ). three F vs fs (place g a j) (place g b j) (place g d j))
-    mix_turn g a b d l m end i {p} {q} {u} {to} na nb nd few e h at ep eq eu =
-        store_block l m end s i g.r3 _ _ e (rw at at h)
+    mix_turn g a b d l m end i na nb nd few e h =
+        store_block l m end s i g.r3 _ _ e h
         (λ c w.
-        rw (ep, eq, eu, place_row g a i c w, place_row g b i c w, place_row g d i c w)
+        rw (place_row g a i c w, place_row g b i c w, place_row g d i c w)
         (three_kept _ _ _ (cell_below g a na i c few w) (cell_below g b nb i c few w) (cell_below g d nd i c few w)))
 
 module _ {A : Type 0} (l : List A) (s : ℕ) (f : ℕ → A) where

@@ -1,7 +1,9 @@
 -- Three sources along a row.
 use Rattle.std.specs.Prelude.{ℕ, ◌+◌, ◌<◌, List, ℤ}
+use Rattle.plan.specs.declared.Row.{Row}
 use Rattle.views.specs.declared.Line.{Line}
-use Rattle.views.specs.Views.{stride_of, step, span}
+use Rattle.views.specs.declared.View.{View}
+use Rattle.views.specs.Views.{stride_of, step, span, row_place}
 use Rattle.validity.specs.declared.Lines.{Lines}
 use Rattle.validity.specs.Flags.{three}
 
@@ -28,4 +30,12 @@ stepping l x y = record {
   a = record { place = l.a.place; stride = stride_of x 0 };
   b = record { place = l.b.place; stride = stride_of y 0 };
   d = record { place = l.d.place; stride = stride_of y 0 };
+}
+
+-- row i of three views
+abbrev pub row_lines : Row → View → View → View → ℕ → Lines
+row_lines g a b d i = record {
+  a = record { place = row_place g a i; stride = a.s3 };
+  b = record { place = row_place g b i; stride = b.s3 };
+  d = record { place = row_place g d i; stride = d.s3 };
 }

@@ -1,14 +1,10 @@
-use Prim.Native.Nat.{ℕ, ◌+◌, ◌-◌, ◌^◌, ◌≤◌}
+use Prim.Native.Nat.{ℕ, ◌^◌}
 use mathlib.Core.Path.{◌≡◌}
-use lib.IntN.{pos}
-use lib.ListN.{length, get_or}
+use lib.IntN.{ℤ, pos}
+use lib.ListN.{get_or}
 use Rattle.laws.specs.Store.{store}
-use Rattle.cells.specs.Cells.{binary}
-use Rattle.views.specs.Views.{stride_of, step}
+use Rattle.validity.specs.Lines.{cell_place}
 use Rattle.elementwise.proofs.power_values.Given as goal
 
 abbrev pub invariant-loop-i : goal.invariant-loop-i
-invariant-loop-i l = (l.i ≤ l.n) × (length l.values ≡ length l.initial.values) × (l.values ≡ store l.initial.values l.to l.i (λ (j : ℕ). binary l.op (get_or l.initial.values (l.p + step l.n (stride_of 1 0) j) (pos 0)) (pos (2 ^ l.k))))
-
-abbrev pub decreases-loop-i : goal.decreases-loop-i
-decreases-loop-i l = l.n - l.i
+invariant-loop-i g l = (z : ℕ → ℤ) → l.values ≡ store l.initial.values l.to l.i (λ (j : ℕ). g.P.Mix.mixed (get_or l.initial.values (cell_place l.n l.line j) (pos 0)) (pos (2 ^ l.k)) (z j))
