@@ -1,5 +1,5 @@
 -- Floored division by a power of two: shifts of the number raised by 2^31.
-use Rattle.std.proofs.Common.{◌≡◌, ℕ, ◌+◌, ◌-◌, ◌*◌, ◌/◌, ◌%◌, ◌^◌, ◌<◌, ◌≤◌, ℤ, pos, ◌+ℤ◌, ◌-ℤ◌, ◌*ℤ◌, nat_abs, ◌≤ℤ◌, ◌<ℤ◌, sym, refl, ap, ◌∙◌, mod-lt, one-mul, arith, pow_pos, pow_mono, pow-add, shl_exact, w64, SFits, to_z}
+use Rattle.std.proofs.Common.{◌≡◌, ℕ, ◌+◌, ◌-◌, ◌*◌, ◌/◌, ◌%◌, ◌^◌, ◌<◌, ◌≤◌, ℤ, pos, ◌+ℤ◌, ◌-ℤ◌, ◌*ℤ◌, ◌<ℤ◌, sym, refl, ap, ◌∙◌, mod-lt, one-mul, arith, pow_pos, pow_mono, pow-add, shl_exact, w64, SFits, to_z}
 use native.Mathlib.Nat.{div-add-mod}
 use lib.Pow.{shl-shr, shr_le}
 use lib.IntN.{*ℤ_comm}

@@ -25,7 +25,7 @@ ghost use Rattle.walking.specs.Movements.{Viewed};
 ghost use Rattle.evaluation.specs.Standing.{Source, Evaluates, Room, Given, copied, moves, Padded, Reduced, Stacked};
 ghost use Rattle.evaluation.specs.Spread.{Spreading, Spread};
 
-use plan::{Node, Row};
+use plan::{Node, Operation, Row};
 use shapes::Shape;
 use views::{Stride, View};
 use walking::Walk;
@@ -174,7 +174,9 @@ fn mix_cells(op: usize, w: Walk, values: &mut [i64], flags: &mut [u8], start: us
 {
     let t = walking::settle(w);
     let rows = walking::rows(t.grid);
-    elementwise::mix(values, flags, op, t.grid, t.a, t.b, t.d, rows, start);
+    if let Ok(op) = Operation::try_from(op) {
+        elementwise::mix(values, flags, op, t.grid, t.a, t.b, t.d, rows, start);
+    }
 }
 
 // The views of the sources of a binary operation or WHERE, over the grid of its result; a binary operation has its second twice.

@@ -21,7 +21,7 @@ use Rattle.plan.specs.declared.operations.Operation.{Operation}
 use Rattle.plan.specs.declared.operations.Operation.TheVariants.{Where}
 use Rattle.plan.specs.Coded.{number_of}
 use Rattle.views.specs.declared.View.{View}
-use Rattle.views.specs.Views.{stride_of, step, rows_of, row_place, place, reach}
+use Rattle.views.specs.Views.{stride_of, step, rows_of, place, reach}
 use Rattle.views.proofs.RowPlaces.{place_row, cell_below}
 use Rattle.views.proofs.Steps.{step_le}
 use Rattle.validity.specs.Flags.{mix_flag, side_of, side_flag, chosen_flag, three}
