@@ -1,95 +1,104 @@
-// Numbers and words in the frames of the program `vectors`, little-endian. What these functions give is not proved beyond its range: the test that
-// spoils every case shows that the program looks at each of its bytes.
+// Numbers and words in the frames of the program `vectors`, little-endian: a size has two bytes, a number and a word have eight.
 #![tactic(auto)]
 
-ghost use Rattle.std.specs.Prelude.{◌≡◌, ◌+◌, ◌*◌, ◌<◌, ◌≤◌, length};
+ghost use Rattle.std.specs.Prelude.{◌≡◌, ℕ, ◌+◌, ◌*◌, ◌<◌, ◌%◌, ◌↔◌, map, length, take, drop, IsTrue, MatchResult, slice_index_or, EachIndex, pos, ℤ};
+ghost use Rattle.std.specs.Int.{w16, w64, from_le_bytes};
+ghost use Rattle.std.specs.Simd.{first_chunks};
+ghost use Rattle.framing.specs.Words.{word_of};
 
-// A byte as a number.
-pub fn wide(b: u8) -> usize
-    ensures { result < 256 }
-{
-    b as usize
+// The bytes are too few, or too many, for what they should hold, or the program's buffers have no room for it.
+#[derive(Clone, Copy, Debug, PartialEq, Eq)]
+pub struct Malformed;
+
+// A cell of a buffer that a call writes: a word, or a byte, which a frame holds as a word.
+pub trait Cell: Copy {
+    ghost word: { Self → ℤ };
+
+    fn word(self) -> i64
+        ensures { result ≡ word self };
 }
 
-// The number in two bytes.
-pub fn two(s: &[u8], at: usize) -> usize
-    requires { at + 2 ≤ length s.now }
-    ensures { result < 65536 }
-{
-    wide(s[at]) + 256 * wide(s[at + 1])
-}
+impl Cell for i64 {
+    ghost word = { λ w. w };
 
-// The number in eight bytes.
-pub fn eight(s: &[u8], at: usize) -> usize
-    requires { at + 8 ≤ length s.now }
-{
-    let low = two(s, at) + 65536 * two(s, at + 2);
-    let high = two(s, at + 4) + 65536 * two(s, at + 6);
-    low + 4294967296 * high
-}
-
-// A number as a word in two's complement.
-fn signed(n: usize) -> i64 {
-    if n < 9223372036854775808 {
-        return n as i64;
-    }
-    let below = (18446744073709551615 - n) as i64;
-    -1 - below
-}
-
-// The words in the bytes, into the table.
-pub fn read_words(s: &[u8], table: &mut [i64])
-    requires { 8 * length table.old ≤ length s.now }
-{
-    let mut i = 0;
-    while i < table.len() {
-        table[i] = signed(eight(s, 8 * i));
-        i += 1;
+    fn word(self) -> i64 {
+        self
     }
 }
 
-// The pattern that a buffer holds before a call.
-pub fn fill(buffer: &mut [i64])
-    requires { length buffer.old ≤ 8192 }
-{
-    let mut i = 0;
-    while i < buffer.len() {
-        buffer[i] = (1000 + i) as i64;
-        i += 1;
+impl Cell for u8 {
+    ghost word = { pos };
+
+    fn word(self) -> i64 {
+        i64::from(self)
     }
 }
 
-// The flags as words.
-pub fn widen(flags: &[u8], words: &mut [i64])
-    requires { length flags.now ≡ length words.old }
+// The size at the front, and the bytes after it.
+pub fn size(bytes: &[u8]) -> Result<(u16, &[u8]), Malformed>
+    ensures { MatchResult result (λ p. (p.0 ≡ from_le_bytes w16 (take 2 bytes.now)) × (p.1.now ≡ drop 2 bytes.now)) (λ _. length bytes.now < 2) }
 {
-    let mut i = 0;
-    while i < words.len() {
-        words[i] = wide(flags[i]) as i64;
-        i += 1;
-    }
+    let (size, rest) = bytes.split_first_chunk().ok_or(Malformed)?;
+    Ok((u16::from_le_bytes(*size), rest))
 }
 
-// Whether the bytes from place `at` on are these three numbers.
-pub fn same_answer(a: plan::Answer, bytes: &[u8], at: usize) -> bool
-    requires { at + 24 ≤ length bytes.now }
+// The number at the front, and the bytes after it.
+pub fn number(bytes: &[u8]) -> Result<(u64, &[u8]), Malformed>
+    ensures { MatchResult result (λ p. (p.0 ≡ from_le_bytes w64 (take 8 bytes.now)) × (p.1.now ≡ drop 8 bytes.now)) (λ _. length bytes.now < 8) }
 {
-    let number = eight(bytes, at) as u64;
-    let place = eight(bytes, at + 8) as u64;
-    let count = eight(bytes, at + 16) as u64;
-    (number == a.number) & ((place == a.place) & (count == a.count))
+    let (number, rest) = bytes.split_first_chunk().ok_or(Malformed)?;
+    Ok((u64::from_le_bytes(*number), rest))
 }
 
-// Whether the bytes from place `at` on are the words of the buffer.
-pub fn same_words(buffer: &[i64], bytes: &[u8], at: usize) -> bool
-    requires { at + 8 * length buffer.now ≤ length bytes.now }
+// The bytes of the first `count` words, and the bytes after them.
+pub fn words(bytes: &[u8], count: u16) -> Result<(&[[u8; 8]], &[u8]), Malformed>
+    ensures { MatchResult result (λ p. (p.0.now ≡ first_chunks 8 count (take (8 * count) bytes.now)) × (p.1.now ≡ drop (8 * count) bytes.now)) (λ _. length bytes.now < 8 * count) }
 {
-    let mut i = 0;
-    while i < buffer.len() {
-        if buffer[i] != signed(eight(bytes, at + 8 * i)) {
-            return false;
-        }
-        i += 1;
+    let (front, rest) = bytes
+        .split_at_checked(8 * usize::from(count))
+        .ok_or(Malformed)?;
+    let (words, _) = front.as_chunks();
+    Ok((words, rest))
+}
+
+// The bytes of the words, where there are only whole words.
+pub fn all_words(bytes: &[u8]) -> Result<&[[u8; 8]], Malformed>
+    ensures { MatchResult result (λ words. (8 * length words.now ≡ length bytes.now) × (words.now ≡ first_chunks 8 (length words.now) bytes.now)) (λ _. 0 < length bytes.now % 8) }
+{
+    let (words, rest) = bytes.as_chunks();
+    if !rest.is_empty() {
+        return Err(Malformed);
     }
-    true
+    Ok(words)
+}
+
+// The words, into the front of the cells.
+pub fn read_words<'a>(words: &[[u8; 8]], cells: &'a mut [i64]) -> Result<&'a [i64], Malformed>
+    ensures { MatchResult result (λ table. table.now ≡ map word_of words.now) (λ _. length cells.old < length words.now) }
+{
+    let table = cells.get_mut(..words.len()).ok_or(Malformed)?;
+    for (k, word) in words.iter().enumerate() {
+        table[k] = i64::from_le_bytes(*word);
+    }
+    Ok(table)
+}
+
+// The front of the cells, with the pattern that a buffer holds before a call: word k is 1000 + k.
+pub fn fill(cells: &mut [i64], room: u16) -> Result<&mut [i64], Malformed>
+    ensures { MatchResult result (λ front. (length front.now ≡ room) × EachIndex front.now (λ k. slice_index_or front.now k (pos 0) ≡ pos (1000 + k))) (λ _. length cells.old < room) }
+{
+    let front = cells.get_mut(..usize::from(room)).ok_or(Malformed)?;
+    for (k, cell) in front.iter_mut().enumerate() {
+        *cell = 1000 + k as i64;
+    }
+    Ok(front)
+}
+
+// Whether the cells are the words.
+pub fn same_words<C: Cell>(cells: &[C], words: &[[u8; 8]]) -> bool
+    ensures { IsTrue result ↔ (map C.word cells.now ≡ map word_of words.now) }
+{
+    let held = cells.iter().map(|cell| cell.word());
+    let wanted = words.iter().map(|word| i64::from_le_bytes(*word));
+    cells.len() == words.len() && held.zip(wanted).all(|(one, other)| one == other)
 }

@@ -1,33 +1,13 @@
 // Lists the packed plan that it reads from standard input.
 #![tactic(auto)]
 
-ghost use Rattle.std.specs.Prelude.{◌≤◌, ◌<◌, IfOk, length, take};
-ghost use Rattle.std.specs.Io.KnownBytes.{Consumes, IsAtEnd};
-
 use std::io;
-use std::io::{Read, Write};
-
-// Reads until the buffer is full or the input ends. How many bytes stand at the buffer's start: the input's next ones.
-fn read_full<R: Read>(input: &mut R, buffer: &mut [u8]) -> io::Result<usize>
-    ensures within { IfOk result (λ n. n ≤ length buffer.new) }
-    ensures bytes { IfOk result (λ n. Consumes (R.remaining input.old) (R.remaining input.new) (take n buffer.new)) }
-    ensures end { IfOk result (λ n. n < length buffer.new → IsAtEnd (R.remaining input.new)) }
-{
-    let mut done = 0;
-    while done < buffer.len() {
-        let n = input.read(&mut buffer[done..])?;
-        if n == 0 {
-            break;
-        }
-        done += n;
-    }
-    Ok(done)
-}
+use std::io::Write;
 
 fn main(rt: HostRuntime) -> io::Result<()> {
     let mut bytes = [0u8; 12288];
     let mut text = [0u8; 65536];
-    let got = read_full(&mut rt.stdin(), &mut bytes)?;
+    let got = reading::read_full(&mut rt.stdin(), &mut bytes)?;
     let n = listing::list(&bytes[..got], &mut text);
     rt.stdout().write_all(&text[..n])
 }

@@ -15,395 +15,308 @@
 // tests/tools/vectors.py writes the frames; `vectors.py --list` names the case of each index.
 #![tactic(auto)]
 
-ghost use Rattle.std.specs.Prelude.{◌≡◌, true, ◌+◌, ◌*◌, ◌<◌, ◌≤◌, IfOk, length, take};
-ghost use Rattle.std.specs.Io.KnownBytes.{Consumes, IsAtEnd};
+ghost use Rattle.std.specs.Prelude.{◌≡◌, ◌<◌, length, IfOk};
+ghost use Rattle.std.specs.Iterator.{at_most};
 
-use plan::{ElementNumber, NodeNumber};
-use std::io;
-use std::io::Read;
+use framing::Malformed;
+use plan::{Answer, ElementNumber, NodeNumber};
+use std::{fmt, io};
 
-// What came of a case.
-#[derive(Clone, Copy)]
-enum Finding {
-    Same,
-    Different,
-    Malformed,
+// How many cells a buffer of the program has.
+const CELLS: usize = 8192;
+
+// What a case calls.
+#[derive(Clone, Copy, Debug, PartialEq, Eq)]
+enum Kind {
+    UnpackCheck,
+    Unpack,
+    Check,
+    Run,
+    Lookup,
+    Pack,
 }
 
-// An unpack into the buffer.
-fn unpacks(bytes: &[u8], buffer: &mut [i64], answer: &[u8]) -> bool
-    requires { (length buffer.old ≤ 8192) × (24 + 8 * length buffer.old ≤ length answer.now) }
-{
-    framing::fill(buffer);
-    let a = codec::unpack(bytes, buffer);
-    framing::same_answer(a, answer, 0) & framing::same_words(&buffer[..], answer, 24)
-}
+impl TryFrom<u8> for Kind {
+    type Error = Malformed;
 
-// A check of the words, by way of the table, into the buffer.
-fn checks(words: &[u8], table: &mut [i64], buffer: &mut [i64], answer: &[u8]) -> bool
-    requires { (8 * length table.old ≤ length words.now) × (length buffer.old ≤ 8192) × (24 + 8 * length buffer.old ≤ length answer.now) }
-{
-    framing::read_words(words, table);
-    framing::fill(buffer);
-    let a = verifier::check(&table[..], buffer);
-    framing::same_answer(a, answer, 0) & framing::same_words(&buffer[..], answer, 24)
-}
-
-// A comparison's finding.
-fn found(same: bool) -> Finding {
-    if same {
-        return Finding::Same;
+    fn try_from(number: u8) -> Result<Kind, Malformed> {
+        match number {
+            0 => Ok(Kind::UnpackCheck),
+            1 => Ok(Kind::Unpack),
+            2 => Ok(Kind::Check),
+            3 => Ok(Kind::Run),
+            4 => Ok(Kind::Lookup),
+            5 => Ok(Kind::Pack),
+            _ => Err(Malformed),
+        }
     }
-    Finding::Different
+}
+
+// Why a case does not pass.
+#[derive(Clone, Copy, Debug, PartialEq, Eq)]
+enum Failure {
+    CutShort,
+    Malformed,
+    Differs(Kind),
+}
+
+impl From<Malformed> for Failure {
+    fn from(_malformed: Malformed) -> Failure {
+        Failure::Malformed
+    }
+}
+
+// The rest of a failed case's line.
+impl fmt::Display for Failure {
+    fn fmt<W: fmt::Write>(&self, f: &mut fmt::Formatter<W>) -> fmt::Result {
+        match self {
+            Failure::CutShort => write!(f, ": cut short"),
+            Failure::Malformed => write!(f, ": malformed"),
+            Failure::Differs(kind) => {
+                let number = *kind as u8;
+                write!(f, " of kind {number}: differs")
+            }
+        }
+    }
+}
+
+// A frame that its lengths hold.
+#[derive(Clone, Copy, Drop)]
+struct Frame<'a> {
+    kind: u8,
+    input: &'a [u8],
+    answer: &'a [u8],
+}
+
+// The first frame, and the bytes after it.
+fn split_frame(bytes: &[u8]) -> Result<(Frame<'_>, &[u8]), Malformed>
+    ensures { IfOk result (λ p. length p.1.now < length bytes.now) }
+{
+    let (kind, rest) = bytes.split_first().ok_or(Malformed)?;
+    let (input_length, rest) = framing::size(rest)?;
+    let (answer_length, rest) = framing::size(rest)?;
+    let (input, rest) = rest
+        .split_at_checked(usize::from(input_length))
+        .ok_or(Malformed)?;
+    let (answer, rest) = rest
+        .split_at_checked(usize::from(answer_length))
+        .ok_or(Malformed)?;
+    let frame = Frame {
+        kind: *kind,
+        input,
+        answer,
+    };
+    Ok((frame, rest))
+}
+
+// The frames of the bytes in turn; none after one that is cut short.
+#[derive(Drop)]
+struct Frames<'a>(&'a [u8]);
+
+impl<'a> Iterator for Frames<'a> {
+    type Item = Result<Frame<'a>, Failure>;
+
+    ghost remaining = { λ s. at_most (length s.0.now) };
+
+    fn next(&mut self) -> Option<Result<Frame<'a>, Failure>> {
+        if self.0.is_empty() {
+            return None;
+        }
+        match split_frame(self.0) {
+            Ok((frame, rest)) => {
+                self.0 = rest;
+                Some(Ok(frame))
+            }
+            Err(_) => {
+                self.0 = &[];
+                Some(Err(Failure::CutShort))
+            }
+        }
+    }
+}
+
+// The answer of a call that writes so many cells, and the words of those cells.
+fn wanted(answer: &[u8], cells: usize) -> Result<(Answer, &[[u8; 8]]), Malformed>
+    ensures { IfOk result (λ p. length p.1.now ≡ cells) }
+{
+    let words = framing::all_words(answer)?;
+    let ([number, place, count], written) = words.split_first_chunk::<3>().ok_or(Malformed)?;
+    if written.len() != cells {
+        return Err(Malformed);
+    }
+    let answer = Answer {
+        number: u64::from_le_bytes(*number),
+        place: u64::from_le_bytes(*place),
+        count: u64::from_le_bytes(*count),
+    };
+    Ok((answer, written))
+}
+
+// A case of kind 0.
+fn unpack_check_case(input: &[u8], answer: &[u8]) -> Result<bool, Malformed> {
+    let wanted = answer.as_array().ok_or(Malformed)?;
+    Ok(verifier::unpack_check(input) == u64::from_le_bytes(*wanted))
 }
 
 // A case of kind 1.
-fn unpack_case(bytes: &[u8], room: usize, answer: &[u8]) -> Finding
-    requires { (room ≤ 8192) × (24 + 8 * room ≤ length answer.now) }
-{
-    let mut table = [0i64; 8192];
-    found(unpacks(bytes, &mut table[0..room], answer))
+fn unpack_case(input: &[u8], answer: &[u8]) -> Result<bool, Malformed> {
+    let (room, bytes) = framing::size(input)?;
+    let (wanted, written) = wanted(answer, usize::from(room))?;
+    let mut cells = [0i64; CELLS];
+    let table = framing::fill(&mut cells, room)?;
+    let got = codec::unpack(bytes, table);
+    Ok(got == wanted && framing::same_words(table, written))
 }
 
-// A pack of the words, by way of the table, into the bytes; `wide` is room for them as words.
-fn packs(words: &[u8], table: &mut [i64], bytes: &mut [u8], wide: &mut [i64], answer: &[u8]) -> bool
-    requires { (8 * length table.old ≤ length words.now) × (length wide.old ≤ 8192) × (length bytes.old ≡ length wide.old) × (24 + 8 * length wide.old ≤ length answer.now) }
-{
-    framing::read_words(words, table);
-    let a = packing::pack(&table[..], bytes);
-    framing::widen(&bytes[..], wide);
-    framing::same_answer(a, answer, 0) & framing::same_words(&wide[..], answer, 24)
+// A case of kind 2.
+fn check_case(input: &[u8], answer: &[u8]) -> Result<bool, Malformed> {
+    let (room, words) = framing::size(input)?;
+    let (wanted, written) = wanted(answer, usize::from(room))?;
+    let mut table = [0i64; CELLS];
+    let table = framing::read_words(framing::all_words(words)?, &mut table)?;
+    let mut cells = [0i64; CELLS];
+    let derived = framing::fill(&mut cells, room)?;
+    let got = verifier::check(table, derived);
+    Ok(got == wanted && framing::same_words(derived, written))
 }
 
-// A case of a kind that is given a table: 2 or 5.
-fn table_case(kind: u8, words: &[u8], room: usize, answer: &[u8]) -> Finding
-    requires { (room ≤ 8192) × (24 + 8 * room ≤ length answer.now) }
-{
-    let count = words.len() / 8;
-    if 8192 < count {
-        return Finding::Malformed;
-    }
-    if words.len() % 8 != 0 {
-        return Finding::Malformed;
-    }
-    let mut table = [0i64; 8192];
-    let mut buffer = [0i64; 8192];
-    let mut bytes = [9u8; 8192];
-    if kind == 2 {
-        return found(checks(words, &mut table[0..count], &mut buffer[0..room], answer));
-    }
-    if kind == 5 {
-        return found(packs(
-            words,
-            &mut table[0..count],
-            &mut bytes[0..room],
-            &mut buffer[0..room],
-            answer,
-        ));
-    }
-    Finding::Malformed
-}
-
-// A case of a kind that writes a buffer.
-fn buffer_case(kind: u8, input: &[u8], answer: &[u8]) -> Finding {
-    if input.len() < 2 {
-        return Finding::Malformed;
-    }
-    let room = framing::two(input, 0);
-    if 8192 < room {
-        return Finding::Malformed;
-    }
-    if answer.len() != 24 + 8 * room {
-        return Finding::Malformed;
-    }
-    if kind == 1 {
-        return unpack_case(&input[2..], room, answer);
-    }
-    table_case(kind, &input[2..], room, answer)
-}
-
-// How much of each the input of a run has, and the rooms of its result buffers.
+// What the input of a run has.
 #[derive(Clone, Copy)]
-struct Sizes {
-    words: usize,
-    values: usize,
-    flags: usize,
-    room: usize,
-    flagroom: usize,
+struct RunInput<'a> {
+    words: &'a [[u8; 8]],
+    values: &'a [[u8; 8]],
+    flags: &'a [u8],
+    value_room: u16,
+    flag_room: u16,
 }
 
-// The sizes at the front of the input.
-fn read_sizes(input: &[u8]) -> Sizes
-    requires { 10 ≤ length input.now }
-    ensures { (result.words < 65536) × (result.values < 65536) × (result.flags < 65536) × (result.room < 65536) × (result.flagroom < 65536) }
-{
-    let words = framing::two(input, 0);
-    let values = framing::two(input, 2);
-    let flags = framing::two(input, 4);
-    let room = framing::two(input, 6);
-    let flagroom = framing::two(input, 8);
-    Sizes {
-        words: words,
-        values: values,
-        flags: flags,
-        room: room,
-        flagroom: flagroom,
+// The sizes at the front of the input, and what they are the sizes of.
+fn run_input(input: &[u8]) -> Result<RunInput<'_>, Malformed> {
+    let (words, rest) = framing::size(input)?;
+    let (values, rest) = framing::size(rest)?;
+    let (flags, rest) = framing::size(rest)?;
+    let (value_room, rest) = framing::size(rest)?;
+    let (flag_room, rest) = framing::size(rest)?;
+    let (words, rest) = framing::words(rest, words)?;
+    let (values, rest) = framing::words(rest, values)?;
+    if rest.len() != usize::from(flags) {
+        return Err(Malformed);
     }
-}
-
-// Whether a frame of these lengths holds them, and the program's buffers do.
-fn fits(z: Sizes, input: usize, answer: usize) -> bool
-    requires { (z.words < 65536) × (z.values < 65536) × (z.flags < 65536) × (z.room < 65536) × (z.flagroom < 65536) }
-    ensures { result ≡ true → (10 + 8 * z.words + 8 * z.values + z.flags ≤ input) × (24 + 8 * z.room + 8 * z.flagroom ≤ answer) × (z.words ≤ 8192) × (z.values ≤ 8192) × (z.room ≤ 8192) × (z.flagroom ≤ 8192) }
-{
-    if input != 10 + 8 * z.words + 8 * z.values + z.flags {
-        return false;
-    }
-    if answer != 24 + 8 * z.room + 8 * z.flagroom {
-        return false;
-    }
-    if 8192 < z.words {
-        return false;
-    }
-    if 8192 < z.values {
-        return false;
-    }
-    if 8192 < z.room {
-        return false;
-    }
-    z.flagroom <= 8192
-}
-
-// A run of the plan in the words on the values and the flags, by way of `table` and `given`, into the two result buffers; `wide` is room for the
-// flags as words.
-fn runs(
-    words: &[u8],
-    values: &[u8],
-    flags: &[u8],
-    table: &mut [i64],
-    given: &mut [i64],
-    out_values: &mut [i64],
-    out_flags: &mut [u8],
-    wide: &mut [i64],
-    answer: &[u8],
-) -> bool
-    requires { (8 * length table.old ≤ length words.now) × (8 * length given.old ≤ length values.now) × (length out_values.old ≤ 8192) × (length out_flags.old ≤ 8192) × (length out_flags.old ≡ length wide.old) × (24 + 8 * length out_values.old + 8 * length out_flags.old ≤ length answer.now) }
-{
-    framing::read_words(words, table);
-    framing::read_words(values, given);
-    framing::fill(out_values);
-    let a = running::run(&table[..], &given[..], flags, out_values, out_flags);
-    framing::widen(&out_flags[..], wide);
-    let end = 24 + 8 * out_values.len();
-    let same = framing::same_words(&out_values[..], answer, 24)
-        & framing::same_words(&wide[..], answer, end);
-    framing::same_answer(a, answer, 0) & same
-}
-
-// The run of a case: so many words and values after the sizes, and the rooms of the result buffers.
-fn run_parts(
-    input: &[u8],
-    answer: &[u8],
-    words: usize,
-    values: usize,
-    room: usize,
-    flagroom: usize,
-) -> Finding
-    requires { (10 + 8 * words + 8 * values ≤ length input.now) × (24 + 8 * room + 8 * flagroom ≤ length answer.now) × (words ≤ 8192) × (values ≤ 8192) × (room ≤ 8192) × (flagroom ≤ 8192) }
-{
-    let mut table = [0i64; 8192];
-    let mut given = [0i64; 8192];
-    let mut out_values = [0i64; 8192];
-    let mut out_flags = [9u8; 8192];
-    let mut wide = [0i64; 8192];
-    let second = 10 + 8 * words;
-    let third = second + 8 * values;
-    found(runs(
-        &input[10..second],
-        &input[second..third],
-        &input[third..],
-        &mut table[0..words],
-        &mut given[0..values],
-        &mut out_values[0..room],
-        &mut out_flags[0..flagroom],
-        &mut wide[0..flagroom],
-        answer,
-    ))
+    Ok(RunInput {
+        words,
+        values,
+        flags: rest,
+        value_room,
+        flag_room,
+    })
 }
 
 // A case of kind 3.
-fn run_case(input: &[u8], answer: &[u8]) -> Finding {
-    if input.len() < 10 {
-        return Finding::Malformed;
-    }
-    let z = read_sizes(input);
-    if fits(z, input.len(), answer.len()) {
-        return run_parts(input, answer, z.words, z.values, z.room, z.flagroom);
-    }
-    Finding::Malformed
-}
-
-// Whether the frame's answer is these five numbers.
-fn same_reply(r: lookup::Reply, answer: &[u8]) -> bool
-    requires { 40 ≤ length answer.now }
-{
-    let number = framing::eight(answer, 0) as u64;
-    let place = framing::eight(answer, 8) as u64;
-    let found = framing::eight(answer, 16) as u64;
-    let node = framing::eight(answer, 24) as u64;
-    let element = framing::eight(answer, 32) as u64;
-    let refusal = (number == r.number) & (place == r.place);
-    let finding = (found == r.found) & ((node == r.node) & (element == r.element));
-    refusal & finding
-}
-
-// A lookup in the plan in the words, by way of the table.
-fn looks(words: &[u8], table: &mut [i64], node: usize, element: usize, answer: &[u8]) -> bool
-    requires { (8 * length table.old ≤ length words.now) × (40 ≤ length answer.now) }
-{
-    framing::read_words(words, table);
-    let found = following::lookup(&table[..], NodeNumber(node), ElementNumber(element));
-    same_reply(following::reply(found), answer)
+fn run_case(input: &[u8], answer: &[u8]) -> Result<bool, Malformed> {
+    let given = run_input(input)?;
+    let value_room = usize::from(given.value_room);
+    let flag_room = usize::from(given.flag_room);
+    let (wanted, written) = wanted(answer, value_room + flag_room)?;
+    let (values_written, flags_written) = written.split_at(value_room);
+    let mut table = [0i64; CELLS];
+    let table = framing::read_words(given.words, &mut table)?;
+    let mut values = [0i64; CELLS];
+    let values = framing::read_words(given.values, &mut values)?;
+    let mut cells = [0i64; CELLS];
+    let out_values = framing::fill(&mut cells, given.value_room)?;
+    let mut flags = [9u8; CELLS];
+    let out_flags = flags.get_mut(..flag_room).ok_or(Malformed)?;
+    let got = running::run(table, values, given.flags, out_values, out_flags);
+    Ok(
+        got == wanted
+            && framing::same_words(out_values, values_written)
+            && framing::same_words(out_flags, flags_written),
+    )
 }
 
 // A case of kind 4.
-fn lookup_case(input: &[u8], answer: &[u8]) -> Finding {
-    if input.len() < 16 {
-        return Finding::Malformed;
-    }
-    if answer.len() != 40 {
-        return Finding::Malformed;
-    }
-    let count = (input.len() - 16) / 8;
-    if 8192 < count {
-        return Finding::Malformed;
-    }
-    if input.len() % 8 != 0 {
-        return Finding::Malformed;
-    }
-    let mut table = [0i64; 8192];
-    let node = framing::eight(input, 0);
-    let element = framing::eight(input, 8);
-    found(looks(&input[16..], &mut table[0..count], node, element, answer))
+fn lookup_case(input: &[u8], answer: &[u8]) -> Result<bool, Malformed> {
+    let (node, rest) = framing::number(input)?;
+    let (element, words) = framing::number(rest)?;
+    let wanted: &[[u8; 8]; 5] = framing::all_words(answer)?.as_array().ok_or(Malformed)?;
+    let mut table = [0i64; CELLS];
+    let table = framing::read_words(framing::all_words(words)?, &mut table)?;
+    let looked = following::lookup(
+        table,
+        NodeNumber(node as usize),
+        ElementNumber(element as usize),
+    );
+    let reply = following::reply(looked);
+    let got = [
+        reply.number,
+        reply.place,
+        reply.found,
+        reply.node,
+        reply.element,
+    ];
+    Ok(got == wanted.map(u64::from_le_bytes))
 }
 
-// A case of any kind.
-fn any_case(kind: u8, input: &[u8], answer: &[u8]) -> Finding {
-    if kind == 4 {
-        return lookup_case(input, answer);
-    }
-    if kind == 3 {
-        return run_case(input, answer);
-    }
-    if kind != 0 {
-        return buffer_case(kind, input, answer);
-    }
-    if answer.len() != 8 {
-        return Finding::Malformed;
-    }
-    found(verifier::unpack_check(input) == framing::eight(answer, 0) as u64)
+// A case of kind 5.
+fn pack_case(input: &[u8], answer: &[u8]) -> Result<bool, Malformed> {
+    let (room, words) = framing::size(input)?;
+    let room = usize::from(room);
+    let (wanted, written) = wanted(answer, room)?;
+    let mut table = [0i64; CELLS];
+    let table = framing::read_words(framing::all_words(words)?, &mut table)?;
+    let mut bytes = [9u8; CELLS];
+    let packed = bytes.get_mut(..room).ok_or(Malformed)?;
+    let got = packing::pack(table, packed);
+    Ok(got == wanted && framing::same_words(packed, written))
 }
 
-// The case in a whole frame.
-fn run_frame(f: &[u8]) -> Finding {
-    if f.len() < 5 {
-        return Finding::Malformed;
+// Whether the call of this kind gives the answer.
+fn gives(kind: Kind, input: &[u8], answer: &[u8]) -> Result<bool, Malformed> {
+    match kind {
+        Kind::UnpackCheck => unpack_check_case(input, answer),
+        Kind::Unpack => unpack_case(input, answer),
+        Kind::Check => check_case(input, answer),
+        Kind::Run => run_case(input, answer),
+        Kind::Lookup => lookup_case(input, answer),
+        Kind::Pack => pack_case(input, answer),
     }
-    let split = 5 + framing::two(f, 1);
-    if f.len() < split {
-        return Finding::Malformed;
-    }
-    any_case(f[0], &f[5..split], &f[split..])
 }
 
-// The position after the frame at `at`, past the end where the frame is cut short.
-fn frame_end(s: &[u8], at: usize) -> usize
-    requires { at < length s.now }
-    ensures { at < result }
-{
-    if s.len() - at < 5 {
-        return s.len() + 1;
+// The case in a frame.
+fn run_frame(frame: Frame<'_>) -> Result<(), Failure> {
+    let kind = Kind::try_from(frame.kind)?;
+    if gives(kind, frame.input, frame.answer)? {
+        Ok(())
+    } else {
+        Err(Failure::Differs(kind))
     }
-    at + 5 + framing::two(s, at + 1) + framing::two(s, at + 3)
-}
-
-// A line on a case that did not pass.
-fn report(rt: &impl Print, index: usize, what: &[u8]) -> io::Result<()> {
-    print!(rt; "case {index}")?;
-    rt.write_all(what)
-}
-
-// Whether the frame passes; a line where it does not.
-fn passes(rt: &impl Print, s: &[u8], at: usize, end: usize, index: usize) -> io::Result<bool>
-    requires { (at < length s.now) × (at < end) }
-{
-    if s.len() < end {
-        report(rt, index, b": cut short\n")?;
-        return Ok(false);
-    }
-    match run_frame(&s[at..end]) {
-        Finding::Same => {
-            return Ok(true);
-        }
-        Finding::Malformed => {
-            report(rt, index, b": malformed\n")?;
-        }
-        Finding::Different => {
-            report(rt, index, b" of kind ")?;
-            let kind = framing::wide(s[at]);
-            println!(rt; "{kind}: differs")?;
-        }
-    }
-    Ok(false)
-}
-
-// The last line.
-fn report_all(rt: &impl Print, passed: usize, failed: usize) -> io::Result<()> {
-    println!(rt; "{passed} passed, {failed} failed")
 }
 
 // Every frame in turn.
-fn run_all(rt: &impl Print, s: &[u8]) -> io::Result<()> {
-    let mut at = 0;
-    let mut index = 0;
-    let mut failed = 0;
-    while at < s.len() {
-        let end = frame_end(s, at);
-        if !passes(rt, s, at, end, index)? {
-            failed += 1;
+fn run_all(rt: &impl Print, bytes: &[u8]) -> io::Result<()> {
+    let mut passed = 0u64;
+    let mut failed = 0u64;
+    for (index, frame) in Frames(bytes).enumerate() {
+        match frame.and_then(run_frame) {
+            Ok(()) => passed += 1,
+            Err(failure) => {
+                println!(rt; "case {index}{failure}")?;
+                failed += 1;
+            }
         }
-        index += 1;
-        at = end;
     }
-    report_all(rt, index - failed, failed)
+    println!(rt; "{passed} passed, {failed} failed")
 }
 
-// Room for the frames. The `ensures` gives only the length, which lending the array as a slice needs.
+// Room for the frames. Its length is an `ensures`, since a proof that computes the array runs out of stack.
 fn input_buffer() -> [u8; 1310720]
     ensures { 1310720 ≡ length result }
 {
     [0; 1310720]
 }
 
-// Reads until the buffer is full or the input ends. How many bytes stand at the buffer's start: the input's next ones.
-fn read_full<R: Read>(input: &mut R, buffer: &mut [u8]) -> io::Result<usize>
-    ensures within { IfOk result (λ n. n ≤ length buffer.new) }
-    ensures bytes { IfOk result (λ n. Consumes (R.remaining input.old) (R.remaining input.new) (take n buffer.new)) }
-    ensures end { IfOk result (λ n. n < length buffer.new → IsAtEnd (R.remaining input.new)) }
-{
-    let mut done = 0;
-    while done < buffer.len() {
-        let n = input.read(&mut buffer[done..])?;
-        if n == 0 {
-            break;
-        }
-        done += n;
-    }
-    Ok(done)
-}
-
 fn main(rt: HostRuntime) -> io::Result<()> {
-    let mut buf = input_buffer();
-    let got = read_full(&mut rt.stdin(), &mut buf)?;
-    run_all(&rt, &buf[..got])
+    let mut bytes = input_buffer();
+    let got = reading::read_full(&mut rt.stdin(), &mut bytes)?;
+    run_all(&rt, &bytes[..got])
 }

@@ -1,9 +1,8 @@
-use Prim.Native.Nat.{◌≤◌, ◌-◌}
-use lib.ListN.{length}
+use Rattle.std.proofs.Common.{◌+◌, ◌≤◌}
 use Rattle.vectors.proofs.run_all.Given as goal
 
-abbrev pub invariant-loop-at : goal.invariant-loop-at
-invariant-loop-at g l = (l.index ≤ l.at) × (l.failed ≤ l.index)
-
-abbrev pub decreases-loop-at : goal.decreases-loop-at
-decreases-loop-at g l = length l.s - l.at
+abbrev pub invariant-loop-index : goal.invariant-loop-index
+invariant-loop-index g l =
+    (goal.iterator-loop-index g).can_next l.index-iterator
+    × (goal.iterator-loop-index g).is_finite l.index-iterator
+    × (l.passed + l.failed + (goal.iterator-loop-index g).remaining l.index-iterator ≤ (goal.iterator-loop-index g).remaining l.initial.index-iterator)
