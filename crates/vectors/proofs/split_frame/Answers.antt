@@ -1,4 +1,4 @@
-use Rattle.std.proofs.Common.{arith, length-drop, ℕ, ap, length}
+use Rattle.std.proofs.Common.{arith, length-drop, ap, length}
 use Rattle.vectors.proofs.split_frame.Goals as goal
 
 pub returns : goal.returns
