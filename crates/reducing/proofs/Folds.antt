@@ -23,17 +23,14 @@ cell_read d l p e h = e ∙ get_or_default l p _ d h
 -- ---- one fold
 
 module _ {A : Type 0} (f : A → A → A) where
-  -- a loop begins, takes a turn, ends; fold_turn for a run in a buffer
+  -- a loop begins and takes a turn, along a line
   pub fold_none : (z : A) (v : ℕ → A) → z ≡ fold_from f z v 0
   unfolding fold_from
   fold_none z v = refl
 
-  pub fold_step : (z : A) (v : ℕ → A) (n : ℕ) (a x : A) → a ≡ fold_from f z v n → x ≡ v n → f a x ≡ fold_from f z v (n + 1)
+  fold_step : (z : A) (v : ℕ → A) (n : ℕ) (a x : A) → a ≡ fold_from f z v n → x ≡ v n → f a x ≡ fold_from f z v (n + 1)
   unfolding fold_from
   fold_step z v n a x e q = rw (e, q, add-one)
-
-  pub fold_done : (z z' : A) (v : ℕ → A) (i n : ℕ) (a : A) → a ≡ fold_from f z v i → z ≡ z' → i ≤ n → n ≤ i → a ≡ fold_from f z' v n
-  fold_done z z' v i n a e begin p q = let h : i ≡ n = omega arith in rw (h, begin) at e
 
   pub fold_turn : (z d : A) (l : List A) (n : ℕ) (line : Line) (i : ℕ) {p : ℕ} {a x y : A} → a ≡ fold_from f z (λ (k : ℕ). get_or l (along n line k) d) i
       → p ≡ along n line i → y ≡ get_or l p d → x ≡ f a y → x ≡ fold_from f z (λ (k : ℕ). get_or l (along n line k) d) (i + 1)

@@ -117,7 +117,7 @@ fn fold_rows<F: Fold>(cells: &mut [F::Cell], kept: Grid, m: usize, gathered: Lin
 {
     let n = kept.extents.r3;
     for i in 0..kept.rows {
-        let row = kept.view.row(kept.extents, i);
+        let row = kept.row(i);
         fold_row::<F>(cells, n, row, m, gathered, start + i * n);
     }
 }
@@ -129,7 +129,7 @@ fn fold_blocks<F: Fold>(cells: &mut [F::Cell], kept: Grid, gathered: Grid, start
 {
     let m = gathered.extents.r3;
     for j in 0..gathered.rows {
-        let run = gathered.view.row(gathered.extents, j);
+        let run = gathered.row(j);
         fold_rows::<F>(cells, kept, m, run, start);
     }
 }

@@ -3,7 +3,6 @@ use mathlib.Core.Path.{refl}
 use native.Mathlib.Omega.{arith}
 use Rattle.laws.proofs.Store.{length_store}
 use Rattle.views.specs.Views.{cells_of, rows_of, reach}
-use Rattle.views.proofs.RowPlaces.{rows_below}
 use Rattle.reducing.proofs.Folds.{blocks_none}
 use Rattle.reducing.proofs.Rows.{row_near, sources_fit, block_turn}
 use Rattle.reducing.proofs.Rooms.{fit_kept, room_block}
@@ -11,11 +10,6 @@ use Rattle.reducing.proofs.fold_blocks.Goals as goal
 
 pub loop-j-init : goal.loop-j-init
 loop-j-init g c = (refl, blocks_none _ _ _ _ _ _ _)
-
-pub row-run-requires : goal.row-run-requires
-row-run-requires g c =
-    let over = c.args.gathered in
-    (rw (← over.all_rows) c.loop-j-test.true, rows_below over.extents over.view (omega (arith, c.requires.0, c.ranges.start.fits)))
 
 pub fold_rows-requires : goal.fold_rows-requires
 fold_rows-requires g c =

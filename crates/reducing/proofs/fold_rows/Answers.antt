@@ -4,7 +4,7 @@ use native.Mathlib.Omega.{arith}
 use native.Mathlib.Nat.{zero-mul}
 use Rattle.laws.proofs.Store.{store_none, length_store}
 use Rattle.views.specs.Views.{cells_of, reach}
-use Rattle.views.proofs.RowPlaces.{rows_below, base_row, block_fits}
+use Rattle.views.proofs.RowPlaces.{base_row, block_fits}
 use Rattle.reducing.specs.Gathering.{far}
 use Rattle.reducing.proofs.Rows.{row_near, row_turn}
 use Rattle.reducing.proofs.Rooms.{fit_kept, room_ahead}
@@ -12,11 +12,6 @@ use Rattle.reducing.proofs.fold_rows.Goals as goal
 
 pub loop-i-init : goal.loop-i-init
 loop-i-init g c = (refl, rw zero-mul (store_none _ _ _))
-
-pub row-row-requires : goal.row-row-requires
-row-row-requires g c =
-    let kept = c.args.kept in
-    (rw (← kept.all_rows) c.loop-i-test.true, rows_below kept.extents kept.view (omega (arith, c.requires.0, c.ranges.start.fits)))
 
 pub fold_row-requires : goal.fold_row-requires
 fold_row-requires g c =
