@@ -115,18 +115,12 @@ impl Writer<'_> {
             return self.put(b'-');
         }
         self.decimal(s.n0 as u64);
-        if s.n1 == 0 {
-            return;
+        for n in [s.n1, s.n2, s.n3] {
+            if n == 0 {
+                return;
+            }
+            self.marked(b'x', n as u64);
         }
-        self.marked(b'x', s.n1 as u64);
-        if s.n2 == 0 {
-            return;
-        }
-        self.marked(b'x', s.n2 as u64);
-        if s.n3 == 0 {
-            return;
-        }
-        self.marked(b'x', s.n3 as u64);
     }
 
     // The number, operation, type and device of node n.
