@@ -1,22 +1,19 @@
 -- The lines of the nodes.
-use Prim.Native.Nat.{ℕ, suc, ◌+◌, ◌*◌, ◌≤◌, ◌<◌}
+use Prim.Native.Nat.{ℕ, suc, ◌+◌, ◌*◌}
 use mathlib.Core.Path.{◌≡◌, refl, sym, ap, ◌∙◌}
-use mathlib.Core.List.{List, [], ◌∷◌, ◌++◌, map, append-nil, append_assoc}
+use mathlib.Core.List.{List, [], ◌∷◌, ◌++◌, append-nil, append_assoc}
 use native.Mathlib.Numerals.{add-one}
 use native.Mathlib.Omega.{arith}
 use lib.IntN.{ℤ}
-use lib.ListN.{length, get_or, take, length-map}
-use lib.Seq.{get_or-take, length-take-le}
+use lib.ListN.{length, get_or}
 use Rattle.laws.specs.Lists.{tab, concat}
-use Rattle.laws.proofs.Lists.{tab_snoc, concat_append, get_or_map}
+use Rattle.laws.proofs.Lists.{tab_snoc, concat_append}
 use Rattle.laws.proofs.Machine.{read_back}
 use Rattle.plan.specs.declared.Interval.{Interval}
 use Rattle.plan.specs.Words.{node_at}
 use Rattle.plan.specs.Answers.{accepted}
 use Rattle.bounds.specs.Narrow.{Held}
-use Rattle.rules.specs.declared.Record.{Record}
 use Rattle.rules.specs.Rules.{Derived, no_source}
-use Rattle.rules.specs.Code.{view_of}
 use Rattle.verifier.specs.Listing.{decimal, signed, shape_text, node_line, text_of, header, accepted_word, space, line_feed}
 use Rattle.verifier.proofs.Writing.{low_is, high_is}
 use Rattle.laws.specs.Pieces.{Writes}
@@ -56,15 +53,6 @@ module _ (t : List ℤ) (ds : List Derived) where
       → Writes (lines_of t ds (i + 1)) (255 * (i + 1)) before at after next
   next_line i op d e q v w =
       within (255 * (i + 1)) (said (rw (e, q, add-one) (lines_more i)) (then v w)) (omega arith)
-
--- the records of a plan, as the code holds them
-module _ (rs : List Record) (count : ℕ) (few : count ≤ length rs) where
-  pub record_at : (i : ℕ) (d : Record) → i < count → view_of (get_or rs i d) ≡ get_or (map view_of (take count rs)) i no_source
-  record_at i d h =
-      sym (get_or_map view_of (take count rs) i no_source d (omega (arith, length-take-le count rs few)) ∙ ap view_of (get_or-take count rs i d h))
-
-  pub as_many : length (map view_of (take count rs)) ≡ count
-  as_many = length-map (take count rs) view_of ∙ length-take-le count rs few
 
 -- all of an accepted plan's text
 pub accepted_is : (t : List ℤ) (ds : List Derived) (count : ℕ) → length ds ≡ count

@@ -1,12 +1,12 @@
 -- The text of a whole plan.
 use Prim.Native.Nat.{ℕ, ◌*◌, ◌-◌, ◌≤◌, ◌<◌}
-use mathlib.Core.Path.{◌≡◌, refl}
-use mathlib.Core.List.{List, []}
+use mathlib.Core.Path.{◌≡◌, refl, ap, ◌∙◌}
+use mathlib.Core.List.{List, [], map}
 use native.Mathlib.Omega.{arith}
 use borrow.Author.Tests.{le-leb, lt-leb}
 use lib.IntN.{ℤ}
 use lib.ListN.{length, take}
-use lib.Seq.{sets}
+use lib.Seq.{sets, length-take-le}
 use Rattle.plan.specs.Words.{node_count}
 use Rattle.plan.specs.declared.faults.Refusal.{Refusal as Refused}
 use Rattle.plan.specs.Answers.{accepted, refuse}
@@ -15,6 +15,8 @@ use Rattle.codec.specs.declared.Plan.{Plan}
 use Rattle.codec.specs.declared.Plan.TheVariants.{Nodes, Stop}
 use Rattle.codec.specs.Plans.{unpack}
 use Rattle.codec.specs.Steps.{plan_of, Stands}
+use Rattle.rules.specs.declared.Record.{Record}
+use Rattle.rules.specs.Code.{view_of}
 use Rattle.verifier.specs.declared.Derivation.{Derivation}
 use Rattle.verifier.specs.Check.{verdict, unpack_check}
 use Rattle.verifier.specs.Verdicts.{records_of, Accepts, Breaks}
@@ -30,13 +32,16 @@ module _ (t : List ℤ) where
   pub refused_text : {e : Refused} → Breaks (verdict t) 256 e → text_of (refuse (fault_number e.fault) e.place) ≡ text_of (checked_of t)
   refused_text b = rw b.is_check refl
 
-  module _ {d : Derivation} (a : Accepts (verdict t) 256 d) where
-    pub accepted_text : text_of (accepted (record { table = t; records = records_of d })) ≡ text_of (checked_of t)
-    accepted_text = rw a.is_check refl
+  module _ {d : Derivation} (a : Accepts (verdict t) 256 d) {rs : List Record} (e : rs ≡ take d.count d.records) where
+    pub as_many : length rs ≡ d.count
+    as_many = ap (λ (l : List Record). length l) e ∙ length-take-le d.count d.records (omega (arith, a.few, a.long))
 
-    pub in_table : 17 * d.count ≤ length t
+    pub accepted_text : text_of (accepted (record { table = t; records = map view_of rs })) ≡ text_of (checked_of t)
+    accepted_text = rw (e, a.is_check) refl
+
+    pub in_table : 17 * length rs ≤ length t
     unfolding node_count
-    in_table = omega (arith, counted t [] a, (accepted_meets t (records_of d) a.is_check).nodes.as_many)
+    in_table = omega (arith, as_many, counted t [] a, (accepted_meets t (records_of d) a.is_check).nodes.as_many)
 
 -- a plan that cannot be read, and one that was read into a table
 module _ (s : List ℕ) {r : Plan} (q : r ≡ plan_of (unpack s 4352)) where

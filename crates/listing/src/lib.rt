@@ -146,26 +146,26 @@ impl Writer<'_> {
         self.put(b'\n');
     }
 
-    // The lines of the first `count` nodes.
-    fn node_lines(&mut self, table: &[i64], records: [Record; 256], count: usize)
-        requires { (count ≤ 256) × (17 * count ≤ length table.now) × (self.old.at + 255 * count ≤ length self.old.text.now) }
-        ensures { Puts (lines_of table.now (map view_of (take count records)) count) (255 * count) self.old self.new }
+    // The lines of the first nodes, one for each record.
+    fn node_lines(&mut self, table: &[i64], records: &[Record])
+        requires { (17 * length records.now ≤ length table.now) × (self.old.at + 255 * length records.now ≤ length self.old.text.now) }
+        ensures { Puts (lines_of table.now (map view_of records.now) (length records.now)) (255 * length records.now) self.old self.new }
     {
-        for i in 0..count {
-            let x = plan::node_at(table, i);
-            self.node_line(i, x.op, records[i]);
+        for (n, record) in records.iter().enumerate() {
+            let node = plan::node_at(table, n);
+            self.node_line(n, node.op, *record);
         }
     }
 
     // The text of an accepted plan.
-    fn accepted(&mut self, table: &[i64], records: [Record; 256], count: usize)
-        requires { (count ≤ 256) × (17 * count ≤ length table.now) × (self.old.at + text_room ≤ length self.old.text.now) }
-        ensures { Puts (text_of (accepted (record { table = table.now; records = map view_of (take count records) }))) text_room self.old self.new }
+    fn accepted(&mut self, table: &[i64], records: &[Record])
+        requires { (length records.now ≤ 256) × (17 * length records.now ≤ length table.now) × (self.old.at + text_room ≤ length self.old.text.now) }
+        ensures { Puts (text_of (accepted (record { table = table.now; records = map view_of records.now }))) text_room self.old self.new }
     {
         self.word(b"node op dtype device low high shape\n");
-        self.node_lines(table, records, count);
+        self.node_lines(table, records);
         self.word(b"accepted ");
-        self.decimal(count as u64);
+        self.decimal(records.len() as u64);
         self.put(b'\n');
     }
 
@@ -191,7 +191,7 @@ impl Writer<'_> {
                 let answer = plan::Answer::from(Err(broken));
                 self.refusal(answer.number, answer.place);
             }
-            Ok(derivation) => self.accepted(table, derivation.records, derivation.count),
+            Ok(derivation) => self.accepted(table, derivation.nodes()),
         }
     }
 
