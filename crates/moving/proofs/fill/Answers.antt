@@ -7,6 +7,3 @@ loop-i-init g c = store_none _ _ _
 
 pub loop-i-preserved : goal.loop-i-preserved
 loop-i-preserved g c = store_step _ _ _ _ _ _ c.loop-i.invariant refl
-
-pub returns : goal.returns
-returns g c = store_done _ _ _ _ _ _ c.loop-i.invariant (search rules) (search rules)

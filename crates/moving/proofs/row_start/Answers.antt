@@ -5,20 +5,11 @@ use Rattle.views.proofs.Padding.{first_in, second_in, third_in, row_in_source}
 use Rattle.moving.proofs.Bands.{start_fits}
 use Rattle.moving.proofs.row_start.Goals as goal
 
-pub nonzero_div-outer : goal.nonzero_div-outer
-nonzero_div-outer c = third_pos c.args.r c.args.i c.requires.1
-
-pub nonzero_div-p0 : goal.nonzero_div-p0
-nonzero_div-p0 c = second_pos c.args.r c.args.i c.requires.1
-
 pub overflow_sub-p0 : goal.overflow_sub-p0
 overflow_sub-p0 c = (first_in c.args.r c.args.o c.args.s c.args.i c.requires.2).0
 
 pub overflow_mul-p0 : goal.overflow_mul-p0
 overflow_mul-p0 c = omega (arith, start_fits c.args.r c.args.o c.args.s c.args.base c.args.i c.requires.0 c.requires.2 c.requires.3 c.strides-t.ensures)
-
-pub nonzero_rem-p1 : goal.nonzero_rem-p1
-nonzero_rem-p1 c = second_pos c.args.r c.args.i c.requires.1
 
 pub overflow_sub-p1 : goal.overflow_sub-p1
 overflow_sub-p1 c = (second_in c.args.r c.args.o c.args.s c.args.i c.requires.2).0
@@ -26,14 +17,8 @@ overflow_sub-p1 c = (second_in c.args.r c.args.o c.args.s c.args.i c.requires.2)
 pub overflow_mul-p1 : goal.overflow_mul-p1
 overflow_mul-p1 c = omega (arith, start_fits c.args.r c.args.o c.args.s c.args.base c.args.i c.requires.0 c.requires.2 c.requires.3 c.strides-t.ensures)
 
-pub nonzero_rem-p2 : goal.nonzero_rem-p2
-nonzero_rem-p2 c = third_pos c.args.r c.args.i c.requires.1
-
 pub overflow_sub-p2 : goal.overflow_sub-p2
 overflow_sub-p2 c = (third_in c.args.r c.args.o c.args.s c.args.i c.requires.2).0
-
-pub overflow_mul-p2 : goal.overflow_mul-p2
-overflow_mul-p2 c = omega (arith, start_fits c.args.r c.args.o c.args.s c.args.base c.args.i c.requires.0 c.requires.2 c.requires.3 c.strides-t.ensures)
 
 pub overflow_add-result : goal.overflow_add-result
 overflow_add-result c = omega (arith, start_fits c.args.r c.args.o c.args.s c.args.base c.args.i c.requires.0 c.requires.2 c.requires.3 c.strides-t.ensures)

@@ -9,6 +9,3 @@ loop-i-init c = store_none _ _ _
 
 pub loop-i-preserved : goal.loop-i-preserved
 loop-i-preserved c = store_step _ _ _ _ _ _ c.loop-i.invariant (to_z-of_z {w = w64} (search rules) ∙ c.from.ensures)
-
-pub returns : goal.returns
-returns c = store_done _ _ _ _ _ _ c.loop-i.invariant (search rules) (search rules)
