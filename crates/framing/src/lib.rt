@@ -77,6 +77,7 @@ pub fn read_words<'a>(words: &[[u8; 8]], cells: &'a mut [i64]) -> Result<&'a [i6
     ensures { MatchResult result (λ table. table.now ≡ map word_of words.now) (λ _. length cells.old < length words.now) }
 {
     let table = cells.get_mut(..words.len()).ok_or(Malformed)?;
+    // By place, since a proof knows nothing of what is written through a `zip`.
     for (k, word) in words.iter().enumerate() {
         table[k] = i64::from_le_bytes(*word);
     }

@@ -47,7 +47,7 @@ impl Writer<'_> {
         self.at = end;
     }
 
-    // At most k decimal digits of n.
+    // At most k decimal digits of n. The recursion is the definition's own: a loop that writes from the last digit needs a second buffer.
     fn digits(&mut self, k: usize, n: u64)
         requires { self.old.at + k ≤ length self.old.text.now }
         ensures { Puts (digits k n) k self.old self.new }
