@@ -2,7 +2,7 @@
 use Prim.Native.Nat.{ℕ, ◌+◌, ◌*◌, ◌-◌, ◌^◌, ◌≤◌, ◌<◌}
 use mathlib.Core.Path.{◌≡◌, refl, sym, ap, ◌∙◌}
 use mathlib.Core.List.{List}
-use native.Mathlib.Nat.{add-zero, add-mul, mul-zero, mul-le-mul_right}
+use native.Mathlib.Nat.{add-zero, add-mul, mul-le-mul_right}
 use native.Mathlib.Omega.{arith}
 use lib.IntN.{ℤ, pos}
 use lib.ListN.{length, get_or}
@@ -14,8 +14,6 @@ use Rattle.laws.proofs.Machine.{Small, small_fits, read_back, read_back_is}
 use Rattle.laws.proofs.Store.{store_read, store_hit, store_same, store_again, store_after_store}
 use Rattle.plan.specs.declared.Row.{Row}
 use Rattle.plan.specs.Operations.{WHERE}
-use Rattle.plan.specs.declared.operations.Operation.{Operation}
-use Rattle.plan.specs.declared.operations.Operation.TheVariants.{Add, Mul, Max, Idiv, Mod, CmpLt, CmpNe, And, Or, Where}
 use Rattle.views.specs.declared.Line.{Line}
 use Rattle.views.specs.declared.Stride.{Stride}
 use Rattle.views.specs.declared.View.{View}
@@ -28,7 +26,7 @@ use Rattle.validity.specs.Flags.{mix_flag, cleared_value}
 use Rattle.validity.specs.Lines.{Before, along, cell_place, last_place, stepping, row_lines}
 use Rattle.validity.proofs.Clearing.{both_cleared}
 use Rattle.validity.proofs.Rows.{Kept, along_kept}
-use Rattle.elementwise.specs.Mixing.{Mixes, plain_value, mix_value, numbers_along, SmallAlong, Sources, Rising, lines_from}
+use Rattle.elementwise.specs.Mixing.{plain_value, mix_value, numbers_along, SmallAlong, Sources, Rising, lines_from}
 
 pub small_back : {x : ℤ} → Small x → Small (read_back x)
 small_back s = rw (read_back_is (small_fits s)) s
@@ -60,11 +58,6 @@ power_row F vs end r l to n k e el f y h =
     let p : pos (2 ^ k) ≡ get_or vs r.b.place (pos 0) = sym y ∙ read_back_is f in
     h (λ j. get_or vs (cell_place n r.d j) (pos 0)) ∙ store_same vs to n _ _ (λ j w. rw (a, b, stay_step n j, add-zero, p) refl)
 
--- what is left of the operations that mix cells
-pub last_mixed : (op : Operation) → Mixes op → (op ≡ Add → ⊥) → (op ≡ Mul → ⊥) → (op ≡ Max → ⊥) → (op ≡ Idiv → ⊥) → (op ≡ Mod → ⊥) → (op ≡ CmpLt → ⊥) → (op ≡ CmpNe → ⊥) → (op ≡ And → ⊥)
-    → (op ≡ Or → ⊥) → op ≡ Where
-last_mixed op m a b c d e f g h i = grind arith
-
 -- ---- the numbers of a row, then 0 in its gaps: vs₁ are the numbers whatever the flags, gs the flags of the result
 
 module _ (op : ℕ) (vs vs₁ vs₂ : List ℤ) (fs gs : List ℕ) (s n : ℕ) (r : Lines) (near : Before r n s) (room : s + n ≤ length vs) (room-flags : s + n ≤ length fs)
@@ -88,7 +81,7 @@ module _ (op : ℕ) (vs vs₁ vs₂ : List ℤ) (fs gs : List ℕ) (s n : ℕ) (
 module _ (s : Stride) (flat : s.down ≡ 0) (n m i : ℕ) (fits : i + m ≤ n) where
   part_place : (p c : ℕ) → p + step n s i + step m s c ≡ p + step n s (i + c)
   unfolding step
-  part_place p c = rw (flat, mul-zero, mul-zero, mul-zero, add-mul) (omega arith)
+  part_place p c = rw (flat, add-mul) (omega arith)
 
   part_below : (p to : ℕ) → 0 < m → p + span n s < to → p + step n s i + span m s < to + i
   unfolding span step
@@ -96,7 +89,7 @@ module _ (s : Stride) (flat : s.down ≡ 0) (n m i : ℕ) (fits : i + m ≤ n) w
       let e : (n - 1) * (s.up + s.down) ≡ (n - 1) * s.up = rw (flat, add-zero) in
       let e' : (m - 1) * (s.up + s.down) ≡ (m - 1) * s.up = rw (flat, add-zero) in
       let t : (i + (m - 1)) * s.up ≤ (n - 1) * s.up = mul-le-mul_right s.up (omega arith) in
-      rw (flat, mul-zero, add-zero) (omega (arith, e, e', t, add-mul i (m - 1) s.up))
+      rw flat (omega (arith, e, e', t, add-mul i (m - 1) s.up))
 
   small_part : {vs ws : List ℤ} {to : ℕ} (p : ℕ) → Kept (pos 0) vs ws to → p + span n s < to → SmallAlong vs n (record { place = p; stride = s })
       → SmallAlong ws m (record { place = p + step n s i; stride = s })

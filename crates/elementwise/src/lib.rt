@@ -83,6 +83,7 @@ fn divided_values<P: ByPower>(values: &mut [i64], lines: Lines, n: usize, to: us
 }
 
 // The numbers of a row, by the operation.
+#[tactic(auto, unfolding(crate::specs::Mixing::plain_value, cells::specs::Cells::binary, laws::specs::Lists::among))]
 fn plain_row(values: &mut [i64], op: Operation, lines: Lines, n: usize, to: usize)
     requires { Mixes op × Sources values.old lines n to × (to + n ≤ length values.old) }
     ensures { values.new ≡ store values.old to n (λ (j : ℕ). numbers_along (plain_value (number_of op)) values.old lines n j) }

@@ -68,12 +68,16 @@ module _ {A : Type 0} (l : List A) (s : ℕ) (f : ℕ → A) where
   pub put : (k n : ℕ) (v : List A) → s + n ≤ length l → k ≡ n → v ≡ tab n f → put_mid s k l v ≡ store l s n f
   put k n v room e h = rw (e, h, store_tab l s n f room, drop-drop, append_assoc) refl
 
--- what stands at cell i of three lines that end before place s
-pub cells_kept : {A : Type 0} {d : A} {l m : List A} {s : ℕ} → Kept d l m s → (r : Lines) (n i : ℕ) → Before r n s → i < n
-    → ◌≡◌ {A = A × A × A} (get_or m (cell_place n r.a i) d, get_or m (cell_place n r.b i) d, get_or m (cell_place n r.d i) d)
-    (get_or l (cell_place n r.a i) d, get_or l (cell_place n r.b i) d, get_or l (cell_place n r.d i) d)
-cells_kept v r n i h w =
-    rw (v.at (cell_place n r.a i) (omega (arith, step_le n r.a.stride i w, h.a)), v.at (cell_place n r.b i) (omega (arith, step_le n r.b.stride i w, h.b)), v.at (cell_place n r.d i) (omega (arith, step_le n r.d.stride i w, h.d))) refl
+-- what was read at cell i of three lines that end before place s
+pub cells_kept : {A : Type 0} {d : A} {l m : List A} {s : ℕ} → Kept d l m s → (r : Lines) (n i : ℕ) → Before r n s → i < n → {x : A × A × A}
+    → x ≡ (get_or m (cell_place n r.a i) d, get_or m (cell_place n r.b i) d, get_or m (cell_place n r.d i) d)
+    → x ≡ (get_or l (cell_place n r.a i) d, get_or l (cell_place n r.b i) d, get_or l (cell_place n r.d i) d)
+cells_kept v r n i h w e =
+    rw (
+      ← v.at (cell_place n r.a i) (omega (arith, step_le n r.a.stride i w, h.a)),
+      ← v.at (cell_place n r.b i) (omega (arith, step_le n r.b.stride i w, h.b)),
+      ← v.at (cell_place n r.d i) (omega (arith, step_le n r.d.stride i w, h.d)),
+    ) e
 
 -- what those cells give, from a number and three flags that were read
 pub along_read : {C : Type 0} (F : ℤ → ℕ → ℤ → ℕ → ℤ → ℕ → C) (vs : List ℤ) (fs : List ℕ) (r : Lines) (n i : ℕ) {x : ℤ} {f : ℕ × ℕ × ℕ} → x ≡ get_or vs (cell_place n r.a i) (pos 0)

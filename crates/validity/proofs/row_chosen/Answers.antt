@@ -10,5 +10,5 @@ pub loop-i-preserved : goal.loop-i-preserved
 loop-i-preserved c =
     let a = c.args in
     let l = c.loop-i in
-    let e = c.read-f.ensures 0 ∙ cells_kept (kept 0 _ _ _ _ _ l.invariant) a.lines a.n l.i c.requires.0 c.loop-i-test.true in
+    let e = cells_kept (kept 0 _ _ _ _ _ l.invariant) a.lines a.n l.i c.requires.0 c.loop-i-test.true (c.read-f.ensures 0) in
     store_step _ _ _ _ _ _ l.invariant (c.side_flag.ensures ∙ chosen_read a.flags.now _ (a.to + l.i) _ _ _ (store_ahead _ _ _ _ _ (a.to + l.i) 0 l.invariant (omega arith)) e)

@@ -14,6 +14,6 @@ pub loop-i-preserved : goal.loop-i-preserved
 loop-i-preserved c =
     let a = c.args in
     let l = c.loop-i in
-    let e = c.read-f.ensures 0 ∙ cells_kept (kept 0 _ _ _ _ _ l.invariant) a.lines a.n l.i c.requires.0 c.loop-i-test.true in
+    let e = cells_kept (kept 0 _ _ _ _ _ l.invariant) a.lines a.n l.i c.requires.0 c.loop-i-test.true (c.read-f.ensures 0) in
     store_step _ _ _ _ _ _ l.invariant
     (c.mix_flag.ensures _ _ ∙ along_read (mix_flag (number_of a.op)) a.values.now a.flags.now a.lines a.n l.i (read_back_is (search rules) ∙ ap (λ k. get_or a.values.now k (pos 0)) c.at.ensures.0) e)
