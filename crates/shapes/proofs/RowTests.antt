@@ -1,52 +1,35 @@
 -- Tests of the four words of a row, and what a row that passes is.
 use Prim.Native.Nat.{ℕ, zero, suc, ◌+◌, ◌<◌, ◌≤◌}
+use native.Mathlib.Nat.{not-suc-le-zero, le_of_suc-le-suc}
 use native.Mathlib.Omega.{arith}
 use mathlib.Core.Path.{◌≡◌, refl, sym, ◌∙◌}
-use mathlib.Core.Bool.{Bool, true, false, ◌&&◌, ◌||◌, cond, false≢true}
+use mathlib.Core.Bool.{Bool, true, false, cond, false≢true}
 use mathlib.Core.List.{List, [], ◌∷◌}
-use borrow.Author.Tests.{eqb-true, ne_eqb, leb-true, ltb-true, ltb-false, lt-ltb}
+use borrow.Author.Tests.{eqb-true, eq-eqb, ne_eqb, leb-true, ltb-true, ltb-false, lt-ltb}
 use lib.Dec.{eqb, leb, ltb}
 use lib.ListN.{length, take}
-use Rattle.laws.specs.Lists.{all_below, occurrences}
+use Rattle.laws.specs.Lists.{occurrences}
 use Rattle.laws.proofs.Booleans.{bool_cases, and_true, all_below_lem}
 use Rattle.laws.proofs.Lists.{take_whole}
 use Rattle.plan.specs.declared.Row.{Row}
 use Rattle.plan.specs.Words.{list_of}
-use Rattle.plan.proofs.ByOperation.{◌then◌, for_range}
 use Rattle.shapes.specs.Rows.{extent_limit, row_of, is_shape_row, is_offset_row, is_permutation}
 use Rattle.shapes.specs.Rules.{word_of}
 use Rattle.shapes.specs.Shown.{Narrow}
 
--- four tests, of which those below n are asked for
-and_all : (b : Bool) → b ≡ (b && true)
-and_all true = refl
-and_all false = refl
-
-pub tests_below : (n : ℕ) (t0 t1 t2 t3 : Bool) → n ≤ 4 → (p : ℕ → Bool) → (0 < n → t0 ≡ p 0) → (1 < n → t1 ≡ p 1) → (2 < n → t2 ≡ p 2) → (3 < n → t3 ≡ p 3)
-    → ((leb n 0 || t0) && ((leb n 1 || t1) && ((leb n 2 || t2) && (leb n 3 || t3)))) ≡ all_below n p
-unfolding all_below
-tests_below n t0 t1 t2 t3 l p =
-    for_range
-    (λ (k : ℕ). (0 < k → t0 ≡ p 0) → (1 < k → t1 ≡ p 1) → (2 < k → t2 ≡ p 2) → (3 < k → t3 ≡ p 3)
-    → ((leb k 0 || t0) && ((leb k 1 || t1) && ((leb k 2 || t2) && (leb k 3 || t3)))) ≡ all_below k p) n 0 5
-    ((λ a b c d. refl)
-    then (λ a b c d. rw (a (omega arith)))
-    then (λ a b c d. rw (a (omega arith), b (omega arith)))
-    then (λ a b c d. rw (a (omega arith), b (omega arith), c (omega arith)))
-    then (λ a b c d. rw (a (omega arith), b (omega arith), c (omega arith), d (omega arith), ← and_all (p 3)))
-    then tt)
-    (omega arith) (omega arith)
-
--- how often k is among the first words of a row
-pub occurs_words : (k rank a b c d : ℕ) → rank ≤ 4
-    → cond (ltb 0 rank && eqb k a) 1 0 + (cond (ltb 1 rank && eqb k b) 1 0 + (cond (ltb 2 rank && eqb k c) 1 0 + cond (ltb 3 rank && eqb k d) 1 0))
-    ≡ occurrences k (take rank (a ∷ b ∷ c ∷ d ∷ []))
+-- one word more, that is k or not
+pub occurs_more : (k j : ℕ) (ns : List ℕ) → j < length ns → word_of ns j ≡ k → occurrences k (take (suc j) ns) ≡ suc (occurrences k (take j ns))
 unfolding occurrences
-occurs_words k rank a b c d l =
-    for_range
-    (λ (n : ℕ). cond (ltb 0 n && eqb k a) 1 0 + (cond (ltb 1 n && eqb k b) 1 0 + (cond (ltb 2 n && eqb k c) 1 0 + cond (ltb 3 n && eqb k d) 1 0))
-    ≡ occurrences k (take n (a ∷ b ∷ c ∷ d ∷ []))) rank 0 5
-    (omega arith then omega arith then omega arith then omega arith then omega arith then tt) (omega arith) (omega arith)
+occurs_more k j [] h e = absurd (not-suc-le-zero h)
+occurs_more k zero (n ∷ ns) h e = rw (eq-eqb k n (sym e)) refl
+occurs_more k (suc j) (n ∷ ns) h e = rw (occurs_more k j ns (le_of_suc-le-suc h) e) (omega arith)
+
+pub occurs_same : (k j : ℕ) (ns : List ℕ) → (word_of ns j ≡ k → ⊥) → occurrences k (take (suc j) ns) ≡ occurrences k (take j ns)
+unfolding occurrences
+occurs_same k zero [] e = refl
+occurs_same k (suc j) [] e = refl
+occurs_same k zero (n ∷ ns) e = rw (ne_eqb k n (λ q. e (sym q))) refl
+occurs_same k (suc j) (n ∷ ns) e = rw (occurs_same k j ns e) refl
 
 -- four words are not five axes
 one_axis : (x : ℕ) → cond (eqb 0 x) 1 0 + (cond (eqb 1 x) 1 0 + (cond (eqb 2 x) 1 0 + (cond (eqb 3 x) 1 0 + cond (eqb 4 x) 1 0))) ≤ 1

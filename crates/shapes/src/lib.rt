@@ -1,21 +1,37 @@
 // The extents of a node as the code holds them, and the tests of its rows. The definitions stand in specs/.
 #![tactic(auto)]
 
-ghost use Rattle.std.specs.Prelude.{◌≡◌, Bool, cond, ℕ, ◌<◌, ◌≤◌, eqb, length, take};
-ghost use Rattle.laws.specs.Lists.{all_below, occurrences};
+ghost use Rattle.std.specs.Prelude.{◌≡◌, Bool, cond, ℕ, ◌<◌, ◌≤◌, eqb, ltb, length, take};
+ghost use Rattle.laws.specs.Lists.{tab, all_below, occurrences};
 ghost use Rattle.plan.specs.Words.{list_of};
 ghost use Rattle.shapes.specs.Rows.{extents_of, row_of, is_shape_row, is_flag_row, is_offset_row, is_permutation};
+ghost use Rattle.shapes.specs.Rules.{word_of};
 ghost use Rattle.shapes.specs.Shown.{words_in, shown, Narrow};
 
 use plan::Row;
 
 // The extents of a node: the words before the first zero.
-#[derive(Clone, Copy)]
+#[derive(Clone, Copy, Debug, PartialEq, Eq)]
 pub struct Shape {
     pub n0: u32,
     pub n1: u32,
     pub n2: u32,
     pub n3: u32,
+}
+
+impl Shape {
+    // Its word for axis k, 0 past the four.
+    pub fn word(self, k: usize) -> u32
+        ensures { result ≡ word_of (words_in self) k }
+    {
+        match k {
+            0 => self.n0,
+            1 => self.n1,
+            2 => self.n2,
+            3 => self.n3,
+            _ => 0,
+        }
+    }
 }
 
 // The number of words before a row's first zero.
@@ -38,14 +54,16 @@ pub fn rank_of(row: Row) -> usize
 }
 
 // The words of a shape as a row.
-pub fn wide(s: Shape) -> Row
-    ensures { list_of result ≡ words_in s }
-{
-    Row {
-        r0: s.n0 as usize,
-        r1: s.n1 as usize,
-        r2: s.n2 as usize,
-        r3: s.n3 as usize,
+impl From<Shape> for Row {
+    ghost from_gives = { λ s r. list_of r ≡ words_in s };
+
+    fn from(s: Shape) -> Row {
+        Row {
+            r0: s.n0 as usize,
+            r1: s.n1 as usize,
+            r2: s.n2 as usize,
+            r3: s.n3 as usize,
+        }
     }
 }
 
@@ -53,7 +71,7 @@ pub fn wide(s: Shape) -> Row
 pub fn rank(s: Shape) -> usize
     ensures { result ≡ length (shown s) }
 {
-    rank_of(wide(s))
+    rank_of(Row::from(s))
 }
 
 // The words of a row as a shape.
@@ -69,49 +87,61 @@ pub fn narrow(row: Row) -> Shape
     }
 }
 
-// Test k holds for each axis k below n.
-pub fn all_below(n: usize, t0: bool, t1: bool, t2: bool, t3: bool) -> bool
-    requires { n ≤ 4 }
-    ensures { (p : ℕ → Bool) → (0 < n → t0 ≡ p 0) → (1 < n → t1 ≡ p 1) → (2 < n → t2 ≡ p 2) → (3 < n → t3 ≡ p 3) → result ≡ all_below n p }
+// The shape whose word for axis k is the function's.
+pub fn shape_of<F: Fn(usize) -> u32>(word: F) -> Shape
+    requires { F.IsAlwaysCallable word }
+    ensures { (p : ℕ → ℕ) → ((k w : ℕ) → F.post word k w → w ≡ p k) → words_in result ≡ tab 4 p }
 {
-    ((n <= 0) | t0) & (((n <= 1) | t1) & (((n <= 2) | t2) & ((n <= 3) | t3)))
-}
-
-// The test of a word of a row: t below the rank, that the word is zero after it.
-fn word_passes(below: bool, t: bool, word: usize) -> bool
-    ensures { result ≡ cond below t (eqb word 0) }
-{
-    if below {
-        return t;
+    Shape {
+        n0: word(0),
+        n1: word(1),
+        n2: word(2),
+        n3: word(3),
     }
-    word == 0
 }
 
-// A row of rank words that meet their tests, then zeros.
-fn row_of(rank: usize, t0: bool, t1: bool, t2: bool, t3: bool, row: Row) -> bool
-    ensures { (p : ℕ → Bool) → t0 ≡ p row.r0 → t1 ≡ p row.r1 → t2 ≡ p row.r2 → t3 ≡ p row.r3 → result ≡ row_of p rank (list_of row) }
+// A word of a row, 0 past its four.
+pub fn word(row: Row, k: usize) -> usize
+    ensures { result ≡ word_of (list_of row) k }
 {
-    all_below(
-        4,
-        word_passes(0 < rank, t0, row.r0),
-        word_passes(1 < rank, t1, row.r1),
-        word_passes(2 < rank, t2, row.r2),
-        word_passes(3 < rank, t3, row.r3),
-    )
+    match k {
+        0 => row.r0,
+        1 => row.r1,
+        2 => row.r2,
+        3 => row.r3,
+        _ => 0,
+    }
+}
+
+// The test holds of each axis below n.
+pub fn all_below<F: Fn(usize) -> bool>(n: usize, holds: F) -> bool
+    requires { F.IsAlwaysCallable holds }
+    ensures { (p : ℕ → Bool) → ((k : ℕ) (b : Bool) → k < n → F.post holds k b → b ≡ p k) → result ≡ all_below n p }
+{
+    for k in 0..n {
+        if !holds(k) {
+            return false;
+        }
+    }
+    true
+}
+
+// A row of rank words that pass the test, then zeros.
+fn row_of<F: Fn(usize) -> bool>(rank: usize, row: Row, passes: F) -> bool
+    requires { F.IsAlwaysCallable passes }
+    ensures { (p : ℕ → Bool) → ((w : ℕ) (b : Bool) → F.post passes w b → b ≡ p w) → result ≡ row_of p rank (list_of row) }
+{
+    all_below(4, |k| {
+        let w = word(row, k);
+        if k < rank { passes(w) } else { w == 0 }
+    })
 }
 
 // Offsets of 0..1048576, then zeros.
 pub fn is_offset_row(rank: usize, row: Row) -> bool
     ensures { result ≡ is_offset_row rank (list_of row) }
 {
-    row_of(
-        rank,
-        row.r0 <= 1048576,
-        row.r1 <= 1048576,
-        row.r2 <= 1048576,
-        row.r3 <= 1048576,
-        row,
-    )
+    row_of(rank, row, |offset| offset <= 1048576)
 }
 
 // Extents of 1..1048576, then zeros.
@@ -125,25 +155,7 @@ pub fn is_shape_row(row: Row) -> bool
 pub fn is_flag_row(rank: usize, row: Row) -> bool
     ensures { result ≡ is_flag_row rank (list_of row) }
 {
-    row_of(
-        rank,
-        row.r0 <= 1,
-        row.r1 <= 1,
-        row.r2 <= 1,
-        row.r3 <= 1,
-        row,
-    )
-}
-
-// 1 where the test holds, else 0.
-fn one_if(test: bool) -> usize
-    ensures value { result ≡ cond test 1 0 }
-    ensures small { result ≤ 1 }
-{
-    if test {
-        return 1;
-    }
-    0
+    row_of(rank, row, |flag| flag <= 1)
 }
 
 // k is once among the first words of the row.
@@ -151,11 +163,13 @@ fn is_once(k: usize, rank: usize, row: Row) -> bool
     requires { rank ≤ 4 }
     ensures { result ≡ eqb (occurrences k (take rank (list_of row))) 1 }
 {
-    let n0 = one_if((0 < rank) & (k == row.r0));
-    let n1 = one_if((1 < rank) & (k == row.r1));
-    let n2 = one_if((2 < rank) & (k == row.r2));
-    let n3 = one_if((3 < rank) & (k == row.r3));
-    n0 + (n1 + (n2 + n3)) == 1
+    let mut times = 0usize;
+    for j in 0..rank {
+        if word(row, j) == k {
+            times += 1;
+        }
+    }
+    times == 1
 }
 
 // The axes 0..rank-1 once each, then zeros.
@@ -165,20 +179,5 @@ pub fn is_permutation(rank: usize, row: Row) -> bool
     if 4 < rank {
         return false;
     }
-    let below = row_of(
-        rank,
-        row.r0 < rank,
-        row.r1 < rank,
-        row.r2 < rank,
-        row.r3 < rank,
-        row,
-    );
-    let once = all_below(
-        rank,
-        is_once(0, rank, row),
-        is_once(1, rank, row),
-        is_once(2, rank, row),
-        is_once(3, rank, row),
-    );
-    below & once
+    row_of(rank, row, |axis| axis < rank) & all_below(rank, |k| is_once(k, rank, row))
 }

@@ -1,5 +1,5 @@
 use Prim.Native.Nat.{ℕ}
-use mathlib.Core.Path.{refl}
+use borrow.Author.Rules.{rules}
 use lib.Dec.{eqb, ltb}
 use lib.ListN.{take}
 use Rattle.laws.specs.Lists.{occurrences}
@@ -16,10 +16,6 @@ unfolding is_permutation
 returns c =
     let e = c.args in
     rw (
-      c.row_of-below.ensures (λ (n : ℕ). ltb n e.rank) refl refl refl refl,
-      c.all_below-once.ensures (λ (k : ℕ). eqb (occurrences k (take e.rank (list_of e.row))) 1)
-          (λ h. c.is_once.ensures)
-          (λ h. c.is_once-2.ensures)
-          (λ h. c.is_once-3.ensures)
-          (λ h. c.is_once-4.ensures),
+      c.row_of.ensures (λ (n : ℕ). ltb n e.rank) (λ w b met. search rules),
+      c.all_below.ensures (λ (k : ℕ). eqb (occurrences k (take e.rank (list_of e.row))) 1) (λ k b h met. search rules),
     )
