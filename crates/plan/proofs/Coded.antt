@@ -1,12 +1,17 @@
 -- The code's operations are those of the tables.
 use Prim.Native.Nat.{◌<◌}
-use mathlib.Core.Path.{◌≡◌, refl}
+use mathlib.Core.Path.{◌≡◌, refl, sym, ap, ◌∙◌}
 use mathlib.Core.Bool.{true}
 use native.Mathlib.Omega.{arith}
 use Rattle.plan.specs.declared.operations.Operation.{Operation}
 use Rattle.plan.specs.declared.operations.Operation.TheVariants.{Const, Param, Permute, Flip, Reshape, Expand, Pad, Shrink, Cast, Add, Mul, Max, Idiv, Mod, CmpLt, CmpNe, And, Or, Where, Reduce, Load, Fill, Known, Stack}
+use Rattle.plan.specs.declared.instructions.Instruction.{Instruction}
 use Rattle.plan.specs.Operations.{is_operation, operation_count}
 use Rattle.plan.specs.Coded.{number_of}
+
+-- the number of a node whose operation is known
+pub number_is : (x : Instruction) {op : Operation} → x.op ≡ op → x.node.op ≡ number_of op
+number_is x e = sym x.named ∙ ap number_of e
 
 pub number_known : (op : Operation) → is_operation (number_of op) ≡ true
 unfolding is_operation

@@ -1,12 +1,12 @@
 -- Tests of two shapes axis by axis, and the axes of a permutation.
 use Prim.Native.Nat.{ℕ, ◌<◌, ◌≤◌}
 use native.Mathlib.Omega.{arith}
-use mathlib.Core.Path.{◌≡◌, refl, ap, sym, ◌∙◌}
+use mathlib.Core.Path.{◌≡◌, ap, sym, ◌∙◌}
 use mathlib.Core.Bool.{Bool, true, false, cond}
-use mathlib.Core.List.{List, [], ◌∷◌, map}
+use mathlib.Core.List.{List, map}
 use borrow.Author.Tests.{eq-eqb, ne_eqb, eqb-true, eqb-false, le-leb, lt-leb}
 use lib.Dec.{eqb, leb}
-use lib.ListN.{length, get_or-eq_default}
+use lib.ListN.{length}
 use Rattle.laws.specs.Lists.{tab, all_below}
 use Rattle.laws.proofs.Booleans.{bool_cases}
 use Rattle.laws.proofs.Lists.{tab_map, take_tab}
@@ -26,30 +26,16 @@ shown_ranked s = extents_length (words_in s)
 -- ---- a test t of each axis
 
 module _ (t : ℕ → ℕ → ℕ → Bool) (a b : Shape) where
-  axis_same : (k : ℕ) → k < length (shown a) → k < length (shown b)
+  pub axis_same : (k : ℕ) → k < length (shown a) → k < length (shown b)
       → t k (word_of (words_in a) k) (word_of (words_in b) k) ≡ t k (extent (shown a) k) (extent (shown b) k)
   axis_same k h l = rw (extent_word (words_in a) k h, extent_word (words_in b) k l)
 
-  -- what `all_below` ensures of r, the test of each axis below n
-  abbrev pub Each : ℕ → Bool → Type 0
-  Each n r =
-      (p : ℕ → Bool) → (0 < n → t 0 a.n0 b.n0 ≡ p 0) → (1 < n → t 1 a.n1 b.n1 ≡ p 1) → (2 < n → t 2 a.n2 b.n2 ≡ p 2)
-      → (3 < n → t 3 a.n3 b.n3 ≡ p 3) → r ≡ all_below n p
-
-  pub each_axis : {n : ℕ} {r : Bool} → n ≡ length (shown a) → n ≡ length (shown b) → Each n r
-      → r ≡ all_below n (λ (k : ℕ). t k (extent (shown a) k) (extent (shown b) k))
-  each_axis {n} e f each = each (λ (k : ℕ). t k (extent (shown a) k) (extent (shown b) k)) (at 0) (at 1) (at 2) (at 3)
-    where
-      at : (k : ℕ) → k < n → t k (word_of (words_in a) k) (word_of (words_in b) k) ≡ t k (extent (shown a) k) (extent (shown b) k)
-      at k h = axis_same k (omega arith) (omega arith)
-
-  pub ranks_same : {n m : ℕ} {r : Bool} → n ≡ length (shown a) → m ≡ length (shown b) → n ≡ m → Each n r
-      → r ≡ same_rank (shown a) (shown b) (λ (k : ℕ). t k (extent (shown a) k) (extent (shown b) k))
+module _ (a b : Shape) (p : ℕ → Bool) where
+  pub ranks_same : {n m : ℕ} {r : Bool} → n ≡ length (shown a) → m ≡ length (shown b) → n ≡ m → r ≡ all_below n p → r ≡ same_rank (shown a) (shown b) p
   unfolding same_rank
-  ranks_same e f same each = rw (eq-eqb (length (shown a)) (length (shown b)) (omega arith), ← e) (each_axis e (same ∙ f) each)
+  ranks_same e f same each = rw (eq-eqb (length (shown a)) (length (shown b)) (omega arith), ← e) each
 
-  pub ranks_differ : {n m : ℕ} → n ≡ length (shown a) → m ≡ length (shown b) → (n ≡ m → ⊥)
-      → false ≡ same_rank (shown a) (shown b) (λ (k : ℕ). t k (extent (shown a) k) (extent (shown b) k))
+  pub ranks_differ : {n m : ℕ} → n ≡ length (shown a) → m ≡ length (shown b) → (n ≡ m → ⊥) → false ≡ same_rank (shown a) (shown b) p
   unfolding same_rank
   ranks_differ e f differ = rw (ne_eqb (length (shown a)) (length (shown b)) (λ q. differ (e ∙ q ∙ sym f)))
 
@@ -63,11 +49,6 @@ same_rank_swap s r p =
 
 -- ---- PERMUTE
 
--- no word past the four
-pub word_none : (past : Bool) (s : Shape) (a : ℕ) → (a ≡ 0 → ⊥) → (a ≡ 1 → ⊥) → (a ≡ 2 → ⊥) → (a ≡ 3 → ⊥) → 0 ≡ cond past 0 (word_of (words_in s) a)
-word_none true s a p q r z = refl
-word_none false s a p q r z = sym (get_or-eq_default (words_in s) 0 {n = a} (omega arith))
-
 module _ (s : Shape) (row : Row) (p : is_permutation (length (shown s)) (list_of row) ≡ true) where
   axes : permuted (shown s) (list_of row) ≡ tab (length (shown s)) (λ (k : ℕ). extent (shown s) (word_of (list_of row) k))
   unfolding permuted tab
@@ -75,7 +56,7 @@ module _ (s : Shape) (row : Row) (p : is_permutation (length (shown s)) (list_of
       ap (map (λ (a : ℕ). extent (shown s) a)) (take_tab (length (shown s)) 4 (word_of (list_of row)) (shown_ranked s))
       ∙ tab_map (λ (a : ℕ). extent (shown s) a) (length (shown s)) (word_of (list_of row))
 
-  permuted_tab : {n : ℕ} → n ≡ length (shown s)
+  pub permuted_tab : {n : ℕ} → n ≡ length (shown s)
       → extents_of (tab 4 (λ (k : ℕ). cond (leb n k) 0 (word_of (words_in s) (word_of (list_of row) k)))) ≡ permuted (shown s) (list_of row)
   permuted_tab {n} e =
       rw (axes, ← e)
@@ -84,9 +65,3 @@ module _ (s : Shape) (row : Row) (p : is_permutation (length (shown s)) (list_of
       (λ k h. rw (lt-leb n k h) (sym (extent_word (words_in s) (word_of (list_of row) k) (axis_below (length (shown s)) (list_of row) p k (omega (arith, shown_ranked s)) (omega arith)))))
       (λ k h. extents_positive (words_in s) (word_of (list_of row) k))
       (λ h. rw (le-leb n n (omega arith))))
-
-  pub permuted_words : {n w0 w1 w2 w3 : ℕ} → n ≡ length (shown s) → w0 ≡ cond (leb n 0) 0 (word_of (words_in s) row.r0) → w1 ≡ cond (leb n 1) 0 (word_of (words_in s) row.r1)
-      → w2 ≡ cond (leb n 2) 0 (word_of (words_in s) row.r2) → w3 ≡ cond (leb n 3) 0 (word_of (words_in s) row.r3)
-      → extents_of (w0 ∷ w1 ∷ w2 ∷ w3 ∷ []) ≡ permuted (shown s) (list_of row)
-  unfolding tab
-  permuted_words n e0 e1 e2 e3 = rw (e0, e1, e2, e3) (permuted_tab n)

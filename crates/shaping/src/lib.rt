@@ -1,7 +1,8 @@
 // The shape rules: counts, broadcasts, rule 8 and the shape of a result.
 #![tactic(auto)]
 
-ghost use Rattle.std.specs.Prelude.{◌≡◌, true, ◌||◌, cond, List, ◌∷◌, ◌++◌, ℕ, ◌+◌, ◌<◌, ◌≤◌, max, eqb, leb, length, replicate};
+ghost use Rattle.std.specs.Prelude.{◌≡◌, Bool, true, ◌||◌, cond, List, ◌∷◌, ◌++◌, ℕ, ◌+◌, ◌<◌, ◌≤◌, max, eqb, leb, length, replicate};
+ghost use Rattle.laws.specs.Lists.{tab};
 ghost use Rattle.laws.specs.Numbering.{count};
 ghost use Rattle.plan.specs.Operations.{PERMUTE, STACK};
 ghost use Rattle.plan.specs.Words.{list_of};
@@ -10,7 +11,7 @@ ghost use Rattle.shapes.specs.Rules.{extent, word_of, same_rank, equal_or_one, c
 ghost use Rattle.shapes.specs.Shown.{words_in, shown, capped, Tested};
 ghost use Rattle.shaping.specs.RightAligned.{RightAligned};
 
-use plan::{Node, Row};
+use plan::{Instruction, Node, Operation, Row};
 use shapes::Shape;
 
 // The count of an extent and those after it, whose count is rest.
@@ -36,16 +37,6 @@ pub fn count(s: Shape) -> usize
     times(s.n0, times(s.n1, times(s.n2, times(s.n3, 1))))
 }
 
-// The larger of two extents.
-fn larger(n: u32, m: u32) -> u32
-    ensures { result ≡ max n m }
-{
-    if n < m {
-        return m;
-    }
-    n
-}
-
 // Two extents are equal or one of them is 1.
 fn equal_or_one(n: u32, m: u32) -> bool
     ensures { result ≡ equal_or_one n m }
@@ -58,39 +49,7 @@ fn ones_in_front(s: Shape, d: usize) -> Shape
     requires { d + length (shown s) ≤ 4 }
     ensures { shown result ≡ replicate d 1 ++ shown s }
 {
-    if d == 0 {
-        return s;
-    }
-    if d == 1 {
-        return Shape {
-            n0: 1,
-            n1: s.n0,
-            n2: s.n1,
-            n3: s.n2,
-        };
-    }
-    if d == 2 {
-        return Shape {
-            n0: 1,
-            n1: 1,
-            n2: s.n0,
-            n3: s.n1,
-        };
-    }
-    if d == 3 {
-        return Shape {
-            n0: 1,
-            n1: 1,
-            n2: 1,
-            n3: s.n0,
-        };
-    }
-    Shape {
-        n0: 1,
-        n1: 1,
-        n2: 1,
-        n3: 1,
-    }
+    shapes::shape_of(|k| if k < d { 1 } else { s.word(k - d) })
 }
 
 // Two operands of one rank.
@@ -135,15 +94,7 @@ pub fn can_broadcast(s: Shape, t: Shape) -> bool
     ensures { result ≡ can_broadcast (shown s) (shown t) }
 {
     let o = aligned(s, t);
-    let a = o.left;
-    let b = o.right;
-    shapes::all_below(
-        o.rank,
-        equal_or_one(a.n0, b.n0),
-        equal_or_one(a.n1, b.n1),
-        equal_or_one(a.n2, b.n2),
-        equal_or_one(a.n3, b.n3),
-    )
+    shapes::all_below(o.rank, |k| equal_or_one(o.left.word(k), o.right.word(k)))
 }
 
 // The larger extent of each axis.
@@ -151,14 +102,20 @@ pub fn broadcast(s: Shape, t: Shape) -> Shape
     ensures { shown result ≡ broadcast (shown s) (shown t) }
 {
     let o = aligned(s, t);
-    let a = o.left;
-    let b = o.right;
-    Shape {
-        n0: larger(a.n0, b.n0),
-        n1: larger(a.n1, b.n1),
-        n2: larger(a.n2, b.n2),
-        n3: larger(a.n3, b.n3),
+    shapes::shape_of(|k| o.left.word(k).max(o.right.word(k)))
+}
+
+// The same rank, and the test holds of each axis.
+fn same_rank<F: Fn(usize) -> bool>(s: Shape, r: Shape, holds: F) -> bool
+    requires { F.IsAlwaysCallable holds }
+    ensures { (p : ℕ → Bool) → ((k : ℕ) (b : Bool) → k < length (shown s) → k < length (shown r) → F.post holds k b → b ≡ p k) → result ≡ same_rank (shown s) (shown r) p }
+{
+    let n = shapes::rank(s);
+    let m = shapes::rank(r);
+    if n != m {
+        return false;
     }
+    shapes::all_below(n, holds)
 }
 
 // An extent is 1 or the other.
@@ -172,18 +129,7 @@ fn expands(n: u32, m: u32) -> bool
 pub fn expand_agrees(s: Shape, r: Shape) -> bool
     ensures { result ≡ same_rank (shown s) (shown r) (λ (k : ℕ). eqb (extent (shown s) k) 1 || eqb (extent (shown s) k) (extent (shown r) k)) }
 {
-    let n = shapes::rank(s);
-    let m = shapes::rank(r);
-    if n != m {
-        return false;
-    }
-    shapes::all_below(
-        n,
-        expands(s.n0, r.n0),
-        expands(s.n1, r.n1),
-        expands(s.n2, r.n2),
-        expands(s.n3, r.n3),
-    )
+    same_rank(s, r, |k| expands(s.word(k), r.word(k)))
 }
 
 // An extent at an offset lies within another.
@@ -197,40 +143,11 @@ fn within(o: u32, n: u32, m: u32) -> bool
 pub fn fits(inner: Shape, outer: Shape, o: Shape) -> bool
     ensures { result ≡ same_rank (shown inner) (shown outer) (λ (k : ℕ). leb (word_of (words_in o) k + extent (shown inner) k) (extent (shown outer) k)) }
 {
-    let n = shapes::rank(inner);
-    let m = shapes::rank(outer);
-    if n != m {
-        return false;
-    }
-    shapes::all_below(
-        n,
-        within(o.n0, inner.n0, outer.n0),
-        within(o.n1, inner.n1, outer.n1),
-        within(o.n2, inner.n2, outer.n2),
-        within(o.n3, inner.n3, outer.n3),
+    same_rank(
+        inner,
+        outer,
+        |k| within(o.word(k), inner.word(k), outer.word(k)),
     )
-}
-
-// Word a of a shape, 0 past the rank.
-fn extent_at(s: Shape, past: bool, a: usize) -> u32
-    ensures { result ≡ cond past 0 (word_of (words_in s) a) }
-{
-    if past {
-        return 0;
-    }
-    if a == 0 {
-        return s.n0;
-    }
-    if a == 1 {
-        return s.n1;
-    }
-    if a == 2 {
-        return s.n2;
-    }
-    if a == 3 {
-        return s.n3;
-    }
-    0
 }
 
 // PERMUTE: axis k of the result is axis k of the row.
@@ -239,12 +156,11 @@ pub fn permuted(s: Shape, row: Row) -> Shape
     ensures { shown result ≡ permuted (shown s) (list_of row) }
 {
     let n = shapes::rank(s);
-    Shape {
-        n0: extent_at(s, n <= 0, row.r0),
-        n1: extent_at(s, n <= 1, row.r1),
-        n2: extent_at(s, n <= 2, row.r2),
-        n3: extent_at(s, n <= 3, row.r3),
-    }
+    shapes::shape_of(|k| if n <= k {
+        0
+    } else {
+        s.word(shapes::word(row, k))
+    })
 }
 
 // An extent, or 1 in its place.
@@ -260,64 +176,33 @@ fn kept(n: u32, one: bool) -> u32
     n
 }
 
+// The extents, 1 in place of those along the axes that the test holds of.
+fn ones_along<F: Fn(usize) -> bool>(s: Shape, one: F) -> Shape
+    requires { F.IsAlwaysCallable one }
+    ensures { (p : ℕ → Bool) → ((k : ℕ) (b : Bool) → F.post one k b → b ≡ p k) → shown result ≡ tab (length (shown s)) (λ (k : ℕ). cond (p k) 1 (extent (shown s) k)) }
+{
+    shapes::shape_of(|k| kept(s.word(k), one(k)))
+}
+
 // REDUCE: flagged axes become 1.
 pub fn reduced(s: Shape, flags: Row) -> Shape
     ensures { shown result ≡ reduced (shown s) (list_of flags) }
 {
-    Shape {
-        n0: kept(s.n0, flags.r0 == 1),
-        n1: kept(s.n1, flags.r1 == 1),
-        n2: kept(s.n2, flags.r2 == 1),
-        n3: kept(s.n3, flags.r3 == 1),
-    }
+    ones_along(s, |k| shapes::word(flags, k) == 1)
 }
 
 // How many elements REDUCE gathers into one, 1048577 where they are over the limit.
 pub fn gathered_count(s: Shape, flags: Row) -> usize
     ensures { result ≡ capped (count (gathered_extents (shown s) (list_of flags))) }
 {
-    count(Shape {
-        n0: kept(s.n0, !(flags.r0 == 1)),
-        n1: kept(s.n1, !(flags.r1 == 1)),
-        n2: kept(s.n2, !(flags.r2 == 1)),
-        n3: kept(s.n3, !(flags.r3 == 1)),
-    })
-}
-
-// Rule 8 of RESHAPE, EXPAND, PAD and SHRINK, whose row A is the result's shape.
-fn movement_agrees(x: Node, s: Shape) -> bool
-    requires le_op { 4 ≤ x.op }
-    requires op_bound { x.op < 8 }
-    requires tested { Tested x (shown s) }
-    ensures { (t u : List ℕ) → result ≡ shapes_agree x (shown s) t u }
-{
-    let op = x.op;
-    let rowa = x.rowa;
-    let r = shapes::narrow(rowa);
-    if op == 4 {
-        return count(s) == count(r);
-    }
-    if op == 5 {
-        return expand_agrees(s, r);
-    }
-    let rowb = x.rowb;
-    let o = shapes::narrow(rowb);
-    if op == 6 {
-        return fits(s, r, o);
-    }
-    fits(r, s, o)
+    count(ones_along(s, |k| shapes::word(flags, k) != 1))
 }
 
 // The same extents.
 fn same_shape(s: Shape, r: Shape) -> bool
     ensures { result ≡ same_shape (shown s) (shown r) }
 {
-    let n = shapes::rank(s);
-    let m = shapes::rank(r);
-    if n != m {
-        return false;
-    }
-    shapes::all_below(n, s.n0 == r.n0, s.n1 == r.n1, s.n2 == r.n2, s.n3 == r.n3)
+    same_rank(s, r, |k| s.word(k) == r.word(k))
 }
 
 // Rule 8 of a STACK: the shapes of its two or three sources are equal, and there is an axis left.
@@ -346,79 +231,71 @@ fn stacked(x: Node, s: Shape) -> Shape
 }
 
 // Rule 8, without its limit on the result's count.
-pub fn shapes_agree(x: Node, a: Shape, b: Shape, c: Shape) -> bool
-    requires { Tested x (shown a) }
-    ensures { result ≡ shapes_agree x (shown a) (shown b) (shown c) }
+pub fn shapes_agree(x: Instruction, a: Shape, b: Shape, c: Shape) -> bool
+    requires { Tested x.node (shown a) }
+    ensures { result ≡ shapes_agree x.node (shown a) (shown b) (shown c) }
 {
-    let op = x.op;
-    if op < 4 {
-        return true;
+    match x.op {
+        Operation::Const
+        | Operation::Param
+        | Operation::Permute
+        | Operation::Flip
+        | Operation::Cast
+        | Operation::Reduce
+        | Operation::Load
+        | Operation::Known => true,
+        Operation::Reshape => count(a) == count(shapes::narrow(x.node.rowa)),
+        Operation::Expand => expand_agrees(a, shapes::narrow(x.node.rowa)),
+        Operation::Pad => fits(a, shapes::narrow(x.node.rowa), shapes::narrow(x.node.rowb)),
+        Operation::Shrink => fits(shapes::narrow(x.node.rowa), a, shapes::narrow(x.node.rowb)),
+        Operation::Add
+        | Operation::Mul
+        | Operation::Max
+        | Operation::Idiv
+        | Operation::Mod
+        | Operation::CmpLt
+        | Operation::CmpNe
+        | Operation::And
+        | Operation::Or
+        | Operation::Fill => can_broadcast(a, b),
+        Operation::Where => can_broadcast(a, b) & can_broadcast(broadcast(a, b), c),
+        Operation::Stack => stack_agrees(x.node, a, b, c),
     }
-    if op < 8 {
-        return movement_agrees(x, a);
-    }
-    if op == 8 {
-        return true;
-    }
-    if (op < 18) | (op == 21) {
-        return can_broadcast(a, b);
-    }
-    if op == 18 {
-        return can_broadcast(a, b) & can_broadcast(broadcast(a, b), c);
-    }
-    if op == 23 {
-        return stack_agrees(x, a, b, c);
-    }
-    true
 }
 
 // The shape of a result.
-pub fn result_shape(x: Node, a: Shape, b: Shape, c: Shape) -> Shape
-    requires tested { Tested x (shown a) }
-    requires rowa_value { x.op ≡ PERMUTE → is_permutation (length (shown a)) (list_of x.rowa) ≡ true }
-    requires a_len_bound { x.op ≡ STACK → length (shown a) ≤ 3 }
-    ensures { shown result ≡ result_extents x (shown a) (shown b) (shown c) }
+pub fn result_shape(x: Instruction, a: Shape, b: Shape, c: Shape) -> Shape
+    requires tested { Tested x.node (shown a) }
+    requires rowa_value { x.node.op ≡ PERMUTE → is_permutation (length (shown a)) (list_of x.node.rowa) ≡ true }
+    requires a_len_bound { x.node.op ≡ STACK → length (shown a) ≤ 3 }
+    ensures { shown result ≡ result_extents x.node (shown a) (shown b) (shown c) }
 {
-    let op = x.op;
-    let rowa = x.rowa;
-    if op == 0 {
-        return Shape {
+    match x.op {
+        Operation::Const => Shape {
             n0: 0,
             n1: 0,
             n2: 0,
             n3: 0,
-        };
+        },
+        Operation::Param
+        | Operation::Reshape
+        | Operation::Expand
+        | Operation::Pad
+        | Operation::Shrink => shapes::narrow(x.node.rowa),
+        Operation::Permute => permuted(a, x.node.rowa),
+        Operation::Flip | Operation::Cast | Operation::Load | Operation::Known => a,
+        Operation::Add
+        | Operation::Mul
+        | Operation::Max
+        | Operation::Idiv
+        | Operation::Mod
+        | Operation::CmpLt
+        | Operation::CmpNe
+        | Operation::And
+        | Operation::Or
+        | Operation::Fill => broadcast(a, b),
+        Operation::Where => broadcast(broadcast(a, b), c),
+        Operation::Reduce => reduced(a, x.node.rowa),
+        Operation::Stack => stacked(x.node, a),
     }
-    if op == 2 {
-        return permuted(a, rowa);
-    }
-    if op == 3 {
-        return a;
-    }
-    if op < 8 {
-        return shapes::narrow(rowa);
-    }
-    if op == 8 {
-        return a;
-    }
-    if (op < 18) | (op == 21) {
-        return broadcast(a, b);
-    }
-    if op == 18 {
-        // by its extents: handed on whole it would keep the shapes of all operations in memory
-        let r = broadcast(broadcast(a, b), c);
-        return Shape {
-            n0: r.n0,
-            n1: r.n1,
-            n2: r.n2,
-            n3: r.n3,
-        };
-    }
-    if op == 19 {
-        return reduced(a, rowa);
-    }
-    if op == 23 {
-        return stacked(x, a);
-    }
-    a
 }

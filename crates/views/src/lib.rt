@@ -145,7 +145,7 @@ fn in_front(row: Row, rank: usize, x: usize) -> Row
 pub fn grid(s: Shape) -> Row
     ensures { list_of result ≡ replicate (4 - length (shown s)) 1 ++ shown s }
 {
-    in_front(shapes::wide(s), shapes::rank(s), 1)
+    in_front(Row::from(s), shapes::rank(s), 1)
 }
 
 // Flags or offsets over a grid: those of a row, with 0s in front.

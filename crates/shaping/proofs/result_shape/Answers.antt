@@ -1,43 +1,39 @@
-use Rattle.shaping.proofs.Rule8.{narrow_result, result-laws}
+use mathlib.Core.Path.{refl}
+use native.Mathlib.Omega.{arith}
+use Rattle.laws.specs.Lists.{among}
+use Rattle.plan.proofs.Coded.{number_is}
+use Rattle.shapes.specs.Rows.{extents_of}
+use Rattle.shapes.specs.Rules.{result_extents}
+use Rattle.shaping.proofs.Rule8.{result_where}
 use Rattle.shaping.proofs.result_shape.Goals as goal
 
-pub returns-then-op-eq0 : goal.returns-then-op-eq0
-returns-then-op-eq0 c = search result-laws
-
-pub permuted-requires : goal.permuted-requires
-permuted-requires c = c.requires.rowa_value c.if-op-eq2.true
-
-pub returns-then-op-eq2 : goal.returns-then-op-eq2
-returns-then-op-eq2 c = search result-laws
-
-pub returns-then-op-eq3 : goal.returns-then-op-eq3
-returns-then-op-eq3 c = search result-laws
-
 pub narrow-requires : goal.narrow-requires
-narrow-requires c = search narrow_result
+unfolding among
+narrow-requires c = let q = c.args.x.named in let row = c.requires.tested.row_a in grind arith
 
-pub returns-then-op-lt8 : goal.returns-then-op-lt8
-returns-then-op-lt8 c = search result-laws
+pub returns-in-Const : goal.returns-in-Const
+unfolding result_extents among extents_of
+returns-in-Const c = rw (number_is c.args.x c.in-Const.is) refl
 
-pub returns-then-op-eq8 : goal.returns-then-op-eq8
-returns-then-op-eq8 c = search result-laws
+pub returns-in-Permute : goal.returns-in-Permute
+unfolding result_extents among
+returns-in-Permute c = rw (number_is c.args.x c.in-Permute.is) c.permuted.ensures
 
-pub returns-then-op : goal.returns-then-op
-returns-then-op c = search result-laws
+pub returns-in-Reduce : goal.returns-in-Reduce
+unfolding result_extents among
+returns-in-Reduce c = rw (number_is c.args.x c.in-Reduce.is) c.reduced.ensures
 
-pub returns-then-op-eq18 : goal.returns-then-op-eq18
-returns-then-op-eq18 c = search result-laws
+pub returns-in-Param : goal.returns-in-Param
+unfolding result_extents among
+returns-in-Param c = let q = c.args.x.named in grind arith
 
-pub returns-then-op-eq19 : goal.returns-then-op-eq19
-returns-then-op-eq19 c = search result-laws
+pub returns-in-Flip : goal.returns-in-Flip
+unfolding result_extents among
+returns-in-Flip c = let q = c.args.x.named in grind arith
 
-pub stacked-requires : goal.stacked-requires
-stacked-requires c =
-    let pre = c.requires in
-    record { op_value = c.if-op-eq23.true; tested = pre.tested; s_len_bound = pre.a_len_bound c.if-op-eq23.true }
+pub returns-in-Add : goal.returns-in-Add
+unfolding result_extents among
+returns-in-Add c = let q = c.args.x.named in grind arith
 
-pub returns-then-op-eq23 : goal.returns-then-op-eq23
-returns-then-op-eq23 c = c.stacked.ensures _ _
-
-pub returns : goal.returns
-returns c = search result-laws
+pub returns-in-Where : goal.returns-in-Where
+returns-in-Where c = let q = number_is c.args.x c.in-Where.is in search result_where

@@ -10,6 +10,6 @@ in_front-requires c = omega (arith, c.rank.ensures, extents_length (words_in c.a
 
 pub returns : goal.returns
 returns c =
-    let words = c.wide.ensures in
+    let words = c.from.ensures in
     let rank = c.rank.ensures in
     c.in_front.ensures ∙ rw (rank, words, extents_first (words_in c.args.s)) refl
