@@ -1,4 +1,4 @@
--- The bounds of a result, by ranges of operations as the code asks for them.
+-- The bounds of a REDUCE and of a STACK.
 use Prim.Native.Nat.{ℕ, ◌<◌, ◌≤◌}
 use mathlib.Core.Path.{◌≡◌, refl, ap, sym, ◌∙◌}
 use mathlib.Core.Bool.{Bool, true, false}
@@ -7,12 +7,12 @@ use lib.IntN.{pos}
 use Rattle.laws.specs.Lists.{among}
 use Rattle.plan.specs.declared.Interval.{Interval}
 use Rattle.plan.specs.declared.Node.{Node}
-use Rattle.plan.specs.Operations.{is_operation, by_operation}
+use Rattle.plan.specs.Operations.{by_operation}
 use Rattle.plan.specs.Types.{between}
 use Rattle.plan.specs.Words.{in_number}
-use Rattle.plan.proofs.ByOperation.{◌then◌, for_range, operation_small, stack_third}
+use Rattle.plan.proofs.ByOperation.{stack_third}
 use Rattle.bounds.specs.Rules.{where_bounds, stack_bounds, reduce_bounds, bounds_rules, result_bounds}
-use Rattle.bounds.specs.Narrow.{Binary, Result}
+use Rattle.bounds.specs.Narrow.{Result}
 
 -- what is left of 9..17 after the eight before it
 pub last_binary : (op : ℕ) → 9 ≤ op → op < 18 → (op ≡ 9 → ⊥) → (op ≡ 10 → ⊥) → (op ≡ 11 → ⊥) → (op ≡ 12 → ⊥) → (op ≡ 13 → ⊥) → (op ≡ 14 → ⊥) → (op ≡ 15 → ⊥) → (op ≡ 16 → ⊥)
@@ -28,10 +28,6 @@ last_binary op l h n9 n10 n11 n12 n13 n14 n15 n16 =
     four' : (op : ℕ) → 13 ≤ op → (op ≡ 13 → ⊥) → (op ≡ 14 → ⊥) → (op ≡ 15 → ⊥) → (op ≡ 16 → ⊥) → 17 ≤ op
     four' op l a b c d = omega arith
 
--- what is left: a STACK
-pub last_operation : (x : Node) → 18 ≤ x.op → (x.op ≡ 18 → ⊥) → (x.op ≡ 19 → ⊥) → (x.op ≡ 20 → ⊥) → (x.op ≡ 21 → ⊥) → (x.op ≡ 22 → ⊥) → is_operation x.op ≡ true → x.op ≡ 23
-last_operation x l n18 n19 n20 n21 n22 k = omega (arith, operation_small x.op k)
-
 pub stack_three : (a b c : Interval) {third : Bool} {p r : Interval} → third ≡ true → p ≡ where_bounds a b → r ≡ where_bounds p c → r ≡ stack_bounds third a b c
 unfolding stack_bounds
 stack_three a b c e f g = rw e (g ∙ ap (λ (p : Interval). where_bounds p c) f)
@@ -41,43 +37,9 @@ unfolding stack_bounds
 stack_two a b c e f = rw e f
 
 module _ (x : Node) (n : ℕ) (a b c : Interval) where
-  pub bounds_const : x.op ≡ 0 → Result x n a b c (between x.number x.number)
-  unfolding result_bounds among
-  bounds_const q s g = rw q refl
-
-  pub bounds_param : x.op ≡ 1 → Result x n a b c (between x.low x.high)
-  unfolding result_bounds among
-  bounds_param q s g = rw q refl
-
-  pub bounds_moved : (x.op ≡ 0 → ⊥) → (x.op ≡ 1 → ⊥) → x.op < 9 → Result x n a b c a
-  unfolding result_bounds among
-  bounds_moved n0 n1 h s g =
-      for_range (λ (k : ℕ). a ≡ by_operation k (bounds_rules x s a b c) (between (pos 0) (pos 0))) x.op 2 7
-      (refl then refl then refl then refl then refl then refl then refl then tt) (omega arith) h
-
-  pub bounds_binary : {r : Interval} → Binary x.op a b r → Result x n a b c r
-  unfolding result_bounds
-  bounds_binary e s g = e x s c
-
-  pub bounds_where : {r : Interval} → x.op ≡ 18 → r ≡ where_bounds b c → Result x n a b c r
-  unfolding result_bounds among
-  bounds_where q e s g = rw (q, e) refl
-
   pub bounds_reduce : {r : Interval} → x.op ≡ 19 → r ≡ reduce_bounds x.number n a → Result x n a b c r
   unfolding result_bounds among
   bounds_reduce q e s g = rw (q, e, ← (g q)) refl
-
-  pub bounds_load : x.op ≡ 20 → Result x n a b c a
-  unfolding result_bounds among
-  bounds_load q s g = rw q refl
-
-  pub bounds_fill : {r : Interval} → x.op ≡ 21 → r ≡ where_bounds a b → Result x n a b c r
-  unfolding result_bounds among
-  bounds_fill q e s g = rw (q, e) refl
-
-  pub bounds_known : x.op ≡ 22 → Result x n a b c (between (pos 0) (pos 1))
-  unfolding result_bounds among
-  bounds_known q s g = rw q refl
 
   pub bounds_stack : {third : Bool} {r : Interval} → x.op ≡ 23 → third ≡ in_number x 3 → r ≡ stack_bounds third a b c → Result x n a b c r
   unfolding result_bounds among

@@ -3,10 +3,10 @@ use Rattle.std.specs.Prelude.{ℕ, ◌≡◌, List, pos, negsuc}
 use Rattle.laws.specs.Integers.{Within}
 use Rattle.plan.specs.declared.Interval.{Interval}
 use Rattle.plan.specs.declared.Node.{Node}
-use Rattle.plan.specs.Operations.{REDUCE, by_operation}
+use Rattle.plan.specs.Operations.{REDUCE}
 use Rattle.plan.specs.Types.{between}
 use Rattle.plan.specs.Words.{list_of}
-use Rattle.bounds.specs.Rules.{gathered_count, bounds_rules, result_bounds}
+use Rattle.bounds.specs.Rules.{gathered_count, result_bounds}
 use Rattle.bounds.specs.declared.Bounds.{Bounds}
 
 -- the interval that narrow bounds are
@@ -22,10 +22,6 @@ pub record Held (i : Interval) : Type 0 where
 pub record Narrow (i : Interval) : Type 0 where
   pub low : Within i.low (negsuc 2147483647) (pos 2147483647)
   pub high : Within i.high (negsuc 2147483647) (pos 2147483647)
-
--- r is the row of operation op, of two sources, whatever else the node has
-abbrev pub Binary : ℕ → Interval → Interval → Interval → Type 0
-Binary op a b r = (x : Node) (s : List ℕ) (c : Interval) → r ≡ by_operation op (bounds_rules x s a b c) (between (pos 0) (pos 0))
 
 -- r is the result's bounds; a REDUCE gathers n elements of a source of extents s
 abbrev pub Result : Node → ℕ → Interval → Interval → Interval → Interval → Type 0

@@ -5,12 +5,11 @@ ghost use Rattle.std.specs.Prelude.{◌≡◌, true, ◌<◌, ◌≤◌, ℤ, po
 ghost use Rattle.std.specs.Int.Signed.{mag};
 ghost use Rattle.laws.specs.Integers.{min_z, max_z, min4, max4, floor_div, floor_mod};
 ghost use Rattle.laws.proofs.Machine.{Small};
-ghost use Rattle.plan.specs.Operations.{is_operation};
 ghost use Rattle.plan.specs.Types.{between, holds, contains, range_of};
 ghost use Rattle.bounds.specs.Rules.{add_bounds, mul_bounds, max_bounds, min_bounds, idiv_bounds, mod_bounds, where_bounds, cmplt_bounds, cmpne_bounds, reduce_bounds, stack_bounds};
-ghost use Rattle.bounds.specs.Narrow.{wide_of, Held, Narrow, Binary, Result};
+ghost use Rattle.bounds.specs.Narrow.{wide_of, Held, Narrow, Result};
 
-use plan::{Interval, Node};
+use plan::{Instruction, Interval, Operation};
 
 // Bounds that lie in a type.
 #[derive(Clone, Copy)]
@@ -271,24 +270,6 @@ pub fn wide(b: Bounds) -> Interval
     }
 }
 
-// The bounds of a binary operation's result.
-fn binary_bounds(op: usize, a: Interval, b: Interval) -> Interval
-    requires { (9 ≤ op) × (op < 18) × (Held a) × (Held b) }
-    ensures { Binary op a b result }
-{
-    match op {
-        9 => add_bounds(a, b),
-        10 => mul_bounds(a, b),
-        11 => max_bounds(a, b),
-        12 => idiv_bounds(a, b),
-        13 => mod_bounds(b),
-        14 => cmplt_bounds(a, b),
-        15 => cmpne_bounds(a, b),
-        16 => min_bounds(a, b),
-        _ => max_bounds(a, b),
-    }
-}
-
 // The bounds of a REDUCE of n elements: 0 is their sum, else their greatest.
 fn reduce_bounds(number: i64, n: usize, a: Interval) -> Interval
     requires { (n ≤ 1048576) × (Held a) }
@@ -312,44 +293,39 @@ fn stack_bounds(third: bool, a: Interval, b: Interval, c: Interval) -> Interval
 }
 
 // The bounds of a node's result, from its sources' bounds; n elements are gathered where it is a REDUCE.
-pub fn result_bounds(x: Node, n: usize, a: Interval, b: Interval, c: Interval) -> Interval
-    requires { (is_operation x.op ≡ true) × (n ≤ 1048576) × (Held a) × (Held b) }
-    ensures { Result x n a b c result }
+pub fn result_bounds(x: Instruction, n: usize, a: Interval, b: Interval, c: Interval) -> Interval
+    requires { (n ≤ 1048576) × (Held a) × (Held b) }
+    ensures { Result x.node n a b c result }
 {
-    let op = x.op;
-    if op == 0 {
-        let v = x.number;
-        return Interval { low: v, high: v };
+    match x.op {
+        Operation::Const => Interval {
+            low: x.node.number,
+            high: x.node.number,
+        },
+        Operation::Param => Interval {
+            low: x.node.low,
+            high: x.node.high,
+        },
+        Operation::Permute
+        | Operation::Flip
+        | Operation::Reshape
+        | Operation::Expand
+        | Operation::Pad
+        | Operation::Shrink
+        | Operation::Cast
+        | Operation::Load => a,
+        Operation::Add => add_bounds(a, b),
+        Operation::Mul => mul_bounds(a, b),
+        Operation::Max | Operation::Or => max_bounds(a, b),
+        Operation::Idiv => idiv_bounds(a, b),
+        Operation::Mod => mod_bounds(b),
+        Operation::CmpLt => cmplt_bounds(a, b),
+        Operation::CmpNe => cmpne_bounds(a, b),
+        Operation::And => min_bounds(a, b),
+        Operation::Where => where_bounds(b, c),
+        Operation::Reduce => reduce_bounds(x.node.number, n, a),
+        Operation::Fill => where_bounds(a, b),
+        Operation::Known => Interval { low: 0, high: 1 },
+        Operation::Stack => stack_bounds(plan::in_number(x.node, 3), a, b, c),
     }
-    if op == 1 {
-        let low = x.low;
-        let high = x.high;
-        return Interval {
-            low: low,
-            high: high,
-        };
-    }
-    if op < 9 {
-        return a;
-    }
-    if op < 18 {
-        return binary_bounds(op, a, b);
-    }
-    if op == 18 {
-        return where_bounds(b, c);
-    }
-    if op == 19 {
-        let number = x.number;
-        return reduce_bounds(number, n, a);
-    }
-    if op == 20 {
-        return a;
-    }
-    if op == 21 {
-        return where_bounds(a, b);
-    }
-    if op == 22 {
-        return Interval { low: 0, high: 1 };
-    }
-    stack_bounds(plan::in_number(x, 3), a, b, c)
 }

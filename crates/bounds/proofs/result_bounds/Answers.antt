@@ -1,44 +1,80 @@
-use Rattle.laws.proofs.Machine.{read_back_is, fit_at}
-use Rattle.bounds.proofs.ByRange.{bounds_const, bounds_param, bounds_moved, bounds_binary, bounds_where, bounds_reduce, bounds_load, bounds_fill, bounds_known, last_operation, bounds_stack}
+use mir.Syntax.{w64}
+use mir.Val.{SFits}
+use mathlib.Core.Path.{refl}
+use borrow.Author.Rules.{rules}
+use native.Mathlib.Omega.{arith}
+use Rattle.laws.specs.Lists.{among}
+use Rattle.laws.proofs.Machine.{read_back_is}
+use Rattle.plan.proofs.Coded.{number_is}
+use Rattle.bounds.specs.Rules.{result_bounds}
+use Rattle.bounds.proofs.ByRange.{bounds_reduce, bounds_stack}
 use Rattle.bounds.proofs.result_bounds.Goals as goal
 
-pub returns-then-op-eq0 : goal.returns-then-op-eq0
-returns-then-op-eq0 c =
-    let x = c.args.x in
-    rw (read_back_is (fit_at x.number c.struct_told-1.given.1.1.1.1.1.0.1)) (bounds_const x _ _ _ _ c.if-op-eq0.true)
+pub returns-in-Add : goal.returns-in-Add
+unfolding result_bounds among
+returns-in-Add c s g = rw (number_is c.args.x c.in-Add.is) c.add_bounds.ensures
 
-pub returns-then-op-eq1 : goal.returns-then-op-eq1
-returns-then-op-eq1 c =
-    let x = c.args.x in
-    let told = c.struct_told-then-op-eq1-1.given in
-    rw (read_back_is (fit_at x.low told.1.1.1.1.1.1.1.0.1), read_back_is (fit_at x.high told.1.1.1.1.1.1.1.1.0.1))
-    (bounds_param x _ _ _ _ c.if-op-eq1.true)
+pub returns-in-Mul : goal.returns-in-Mul
+unfolding result_bounds among
+returns-in-Mul c s g = rw (number_is c.args.x c.in-Mul.is) c.mul_bounds.ensures
 
-pub returns-then-op-lt9 : goal.returns-then-op-lt9
-returns-then-op-lt9 c = bounds_moved _ _ _ _ _ c.if-op-eq0.false c.if-op-eq1.false c.if-op-lt9.true
+pub returns-in-Idiv : goal.returns-in-Idiv
+unfolding result_bounds among
+returns-in-Idiv c s g = rw (number_is c.args.x c.in-Idiv.is) c.idiv_bounds.ensures
 
-pub returns-then-op-lt18 : goal.returns-then-op-lt18
-returns-then-op-lt18 c = bounds_binary _ _ _ _ _ c.binary_bounds.ensures
+pub returns-in-Mod : goal.returns-in-Mod
+unfolding result_bounds among
+returns-in-Mod c s g = rw (number_is c.args.x c.in-Mod.is) c.mod_bounds.ensures
 
-pub returns-then-op-eq18 : goal.returns-then-op-eq18
-returns-then-op-eq18 c = bounds_where _ _ _ _ _ c.if-op-eq18.true c.where_bounds.ensures
+pub returns-in-CmpLt : goal.returns-in-CmpLt
+unfolding result_bounds among
+returns-in-CmpLt c s g = rw (number_is c.args.x c.in-CmpLt.is) c.cmplt_bounds.ensures
 
-pub returns-then-op-eq19 : goal.returns-then-op-eq19
-returns-then-op-eq19 c =
-    let x = c.args.x in
-    let number = read_back_is (fit_at x.number c.struct_told-then-op-eq19-1.given.1.1.1.1.1.0.1) in
-    bounds_reduce x _ _ _ _ c.if-op-eq19.true (rw number at c.reduce_bounds.ensures)
+pub returns-in-CmpNe : goal.returns-in-CmpNe
+unfolding result_bounds among
+returns-in-CmpNe c s g = rw (number_is c.args.x c.in-CmpNe.is) c.cmpne_bounds.ensures
 
-pub returns-then-op-eq20 : goal.returns-then-op-eq20
-returns-then-op-eq20 c = bounds_load _ _ _ _ _ c.if-op-eq20.true
+pub returns-in-And : goal.returns-in-And
+unfolding result_bounds among
+returns-in-And c s g = rw (number_is c.args.x c.in-And.is) c.min_bounds.ensures
 
-pub returns-then-op-eq21 : goal.returns-then-op-eq21
-returns-then-op-eq21 c = bounds_fill _ _ _ _ _ c.if-op-eq21.true c.where_bounds-then-op-eq21.ensures
+pub returns-in-Where : goal.returns-in-Where
+unfolding result_bounds among
+returns-in-Where c s g = rw (number_is c.args.x c.in-Where.is) c.where_bounds.ensures
 
-pub returns-then-op-eq22 : goal.returns-then-op-eq22
-returns-then-op-eq22 c = bounds_known _ _ _ _ _ c.if-op-eq22.true
+pub returns-in-Fill : goal.returns-in-Fill
+unfolding result_bounds among
+returns-in-Fill c s g = rw (number_is c.args.x c.in-Fill.is) c.where_bounds-in-Fill.ensures
 
-pub returns : goal.returns
-returns c =
-    let q = last_operation c.args.x c.if-op-lt18.false c.if-op-eq18.false c.if-op-eq19.false c.if-op-eq20.false c.if-op-eq21.false c.if-op-eq22.false c.requires.0 in
-    bounds_stack _ _ _ _ _ q c.in_number.ensures c.stack_bounds.ensures
+pub returns-in-Known : goal.returns-in-Known
+unfolding result_bounds among
+returns-in-Known c s g = rw (number_is c.args.x c.in-Known.is) refl
+
+pub returns-in-Permute : goal.returns-in-Permute
+unfolding result_bounds among
+returns-in-Permute c s g = let q = c.args.x.named in grind arith
+
+pub returns-in-Max : goal.returns-in-Max
+unfolding result_bounds among
+returns-in-Max c s g = let q = c.args.x.named in grind arith
+
+pub returns-in-Const : goal.returns-in-Const
+unfolding result_bounds among
+returns-in-Const c s g =
+    let number : SFits w64 c.args.x.node.number = search rules in
+    rw (number_is c.args.x c.in-Const.is, read_back_is number) refl
+
+pub returns-in-Param : goal.returns-in-Param
+unfolding result_bounds among
+returns-in-Param c s g =
+    let low : SFits w64 c.args.x.node.low = search rules in
+    let high : SFits w64 c.args.x.node.high = search rules in
+    rw (number_is c.args.x c.in-Param.is, read_back_is low, read_back_is high) refl
+
+pub returns-in-Reduce : goal.returns-in-Reduce
+returns-in-Reduce c =
+    let number : SFits w64 c.args.x.node.number = search rules in
+    bounds_reduce c.args.x.node _ _ _ _ (number_is c.args.x c.in-Reduce.is) (rw (read_back_is number) at c.reduce_bounds.ensures)
+
+pub returns-in-Stack : goal.returns-in-Stack
+returns-in-Stack c = bounds_stack c.args.x.node _ _ _ _ (number_is c.args.x c.in-Stack.is) c.in_number.ensures c.stack_bounds.ensures
