@@ -1,4 +1,4 @@
--- The device of a result, by ranges of operations as the code asks for them.
+-- The device of a result, by ranges of operations.
 use Prim.Native.Nat.{ℕ, ◌<◌, ◌≤◌}
 use mathlib.Core.Path.{◌≡◌, refl}
 use native.Mathlib.Omega.{arith}
@@ -36,5 +36,3 @@ module _ (x : Node) (d e f : ℕ) where
       (λ l.
       let above : 20 ≤ x.op = ltb-false _ _ l in
       for_range (λ (k : ℕ). join_device (join_device d e) f ≡ by_operation k (device_rules x d e f) 0) x.op 21 3 (refl then refl then refl then tt) (omega arith) h)
-
-pub ruleset device-laws = (device_none, device_param, device_load)

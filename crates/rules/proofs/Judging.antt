@@ -1,12 +1,11 @@
 -- Rules 5 to 11 of a node, from the tests that the code makes in turn.
 use Prim.Native.Nat.{ℕ, ◌<◌, ◌≤◌}
-use mathlib.Core.Path.{◌≡◌, refl, ◌∙◌, subst}
-use mathlib.Core.Bool.{Bool, true, false, ◌||◌, not}
+use mathlib.Core.Path.{◌≡◌, refl, ◌∙◌}
+use mathlib.Core.Bool.{Bool, true, false, not}
 use mathlib.Core.List.{List, [], ◌∷◌}
 use native.Mathlib.Omega.{arith}
 use borrow.Author.Tests.{le-leb, lt-leb, leb-true}
-use lib.Dec.{eqb, leb}
-use lib.IntN.{pos}
+use lib.Dec.{leb}
 use lib.ListN.{length}
 use Rattle.laws.specs.Lists.{among}
 use Rattle.laws.specs.Numbering.{count}
@@ -14,10 +13,10 @@ use Rattle.laws.proofs.Booleans.{and_true, off, on}
 use Rattle.plan.specs.declared.Interval.{Interval}
 use Rattle.plan.specs.declared.Node.{Node}
 use Rattle.plan.specs.Operations.{PAD, SHRINK, is_operation, by_operation}
-use Rattle.plan.specs.Types.{holds, contains, range_of}
+use Rattle.plan.specs.Types.{contains, range_of}
 use Rattle.plan.specs.Words.{list_of}
 use Rattle.plan.specs.Answers.{AllHold, FirstFailing}
-use Rattle.plan.proofs.Outcomes.{fails_here, holds_then, first_front, first_back, all_both}
+use Rattle.plan.proofs.Outcomes.{fails_here, holds_then}
 use Rattle.plan.proofs.ByOperation.{◌then◌, for_group}
 use Rattle.shapes.specs.Rows.{is_shape_row}
 use Rattle.shapes.specs.Rules.{element_limit, shapes_agree, result_extents}
@@ -26,13 +25,8 @@ use Rattle.shapes.proofs.RowTests.{shape_narrow, offset_narrow}
 use Rattle.bounds.specs.Rules.{result_bounds}
 use Rattle.shaping.proofs.Counts.{capped_within, same_limit}
 use Rattle.rules.specs.Rules.{Derived, type_named, types_agree, device_named, param_right, row_rules, rows_right, shape_right, devices_agree, divisor_right, result_device, result_type, derived_of, bounds_in_type}
-use Rattle.shapes.specs.declared.Shape.{Shape}
-use Rattle.rules.specs.declared.Shaped.{Shaped}
-use Rattle.rules.specs.declared.Shaped.TheVariants.{Fits, Misfits}
-use Rattle.rules.specs.declared.Judged.{Judged}
-use Rattle.rules.specs.declared.Judged.TheVariants.{Meets, Breaks}
 use Rattle.rules.proofs.RowRule.{stack_rule}
-use Rattle.rules.specs.Code.{shape_rules_of, value_rules_of, Shapes, Ready, Values, Judges}
+use Rattle.rules.specs.Code.{shape_rules_of, value_rules_of}
 
 -- ---- what rule 7 leaves for the shape rules
 
@@ -146,30 +140,6 @@ pub derived_parts : (x : Node) (a b c : Derived) {t d : ℕ} {i : Interval} {e :
 unfolding derived_of
 derived_parts x a b c p q r s = rw (p, q, r, s) refl
 
--- rule 10, as the code tests it
-pub divisor_test : (op : ℕ) (b : Interval) (h : Bool) → h ≡ holds b (pos 0) → (not (eqb op 12 || eqb op 13) || not h) ≡ divisor_right op b
-unfolding divisor_right among
-divisor_test op b h e = rw (e, or_none (eqb op 13)) refl
-  where
-    or_none : (t : Bool) → (t || false) ≡ t
-    or_none true = refl
-    or_none false = refl
-
 -- the bounds of a result, from its sources' bounds as they were computed
 pub bounds_of : (x : Node) (s : List ℕ) {i j k a b c r : Interval} → r ≡ result_bounds x s i j k → i ≡ a → j ≡ b → k ≡ c → r ≡ result_bounds x s a b c
 bounds_of x s e p q t = e ∙ rw (p, q, t) refl
-
--- ---- rules 5 to 11 together
-
-module _ (x : Node) (params : ℕ) (a b c : Derived) where
-  pub ready_of : {s : Shaped} {e : Shape} {n : ℕ} → Shapes x params a b c s → s ≡ Fits e n → is_operation x.op ≡ true → count a.extents ≤ element_limit → Ready x params a b c e n
-  ready_of h q k l =
-      let f = subst (λ (s : Shaped). Shapes x params a b c s) q h in
-      record { known = k; held = f.0; shape = f.1; counted = f.2; few = l }
-
-  pub misfit_of : {s : Shaped} {number : ℕ} → Shapes x params a b c s → s ≡ Misfits number → Judges x params a b c (Breaks number)
-  misfit_of h q = first_front (value_rules_of x a b c) (subst (λ (s : Shaped). Shapes x params a b c s) q h)
-
-  pub judged_of : (r : Judged) → AllHold (shape_rules_of x params a b c) → Values x a b c r → Judges x params a b c r
-  judged_of (Meets d n) h v = (all_both (shape_rules_of x params a b c) (value_rules_of x a b c) h v.0, v.1, v.2)
-  judged_of (Breaks number) h v = first_back (shape_rules_of x params a b c) h v

@@ -1,4 +1,4 @@
--- Rule 7, by ranges of operations as the code asks for them.
+-- Rule 7, by ranges of operations.
 use Prim.Native.Nat.{ℕ, ◌<◌, ◌≤◌}
 use mathlib.Core.Path.{◌≡◌, refl}
 use mathlib.Core.Bool.{Bool, true, false, ◌&&◌, ◌||◌}

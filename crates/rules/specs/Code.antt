@@ -1,8 +1,11 @@
 -- The code's records and answers of one node, as its contracts name them.
-use Rattle.std.specs.Prelude.{ℕ, ◌<◌, ◌≤◌, ◌≡◌, true, List, [], ◌∷◌, ◌++◌, ℤ, get_or, length}
+use Rattle.std.specs.Prelude.{ℕ, ◌<◌, ◌≤◌, ◌≡◌, true, List, [], ◌∷◌, ◌++◌, ℤ, length, Result, Ok, Err}
 use Rattle.laws.specs.Numbering.{count}
 use Rattle.plan.specs.declared.Node.{Node}
-use Rattle.plan.specs.Operations.{REDUCE, masks, is_operation}
+use Rattle.plan.specs.Operations.{REDUCE, is_operation}
+use Rattle.plan.specs.declared.instructions.Instruction.{Instruction}
+use Rattle.plan.specs.declared.faults.Fault.{Fault}
+use Rattle.plan.specs.Coded.{fault_number}
 use Rattle.plan.specs.Words.{list_of, words_of, node_at, unused_zero}
 use Rattle.plan.specs.Answers.{Rule, rule, AllHold, FirstFailing}
 use Rattle.shapes.specs.declared.Shape.{Shape}
@@ -12,15 +15,8 @@ use Rattle.bounds.specs.Rules.{gathered_count}
 use Rattle.bounds.specs.Narrow.{wide_of}
 use Rattle.rules.specs.declared.Record.{Record}
 use Rattle.rules.specs.declared.Shaped.{Shaped}
-use Rattle.rules.specs.declared.Shaped.TheVariants.{Fits, Misfits}
 use Rattle.rules.specs.declared.Judged.{Judged}
-use Rattle.rules.specs.declared.Judged.TheVariants.{Meets, Breaks}
 use Rattle.rules.specs.Rules.{Derived, sources_earlier, type_named, types_agree, rows_right, shape_right, devices_agree, divisor_right, result_device, result_type, bounds_in_type, derived_of}
-
--- the mask of an operation that is there
-pub record Masked (op mask : ℕ) : Type 0 where
-  pub known : is_operation op ≡ true
-  pub is_mask : mask ≡ get_or masks op 0
 
 -- r is the type of a result, a byte where a type that is named is one; and its device
 pub record TypeOf (x : Node) (a b r : ℕ) : Type 0 where
@@ -52,28 +48,26 @@ value_rules_of x a b c =
     ∷ []
 
 -- the shape of a node that meets rules 5 to 8, with its count of elements; or the rule that it breaks
-abbrev pub Shapes : Node → ℕ → Derived → Derived → Derived → Shaped → Type 0
-Shapes x params a b c (Fits e n) =
-    AllHold (shape_rules_of x params a b c) × (shown e ≡ result_extents x a.extents b.extents c.extents) × (n ≡ count (shown e))
-Shapes x params a b c (Misfits number) = FirstFailing (shape_rules_of x params a b c) number
+abbrev pub Shapes : Node → ℕ → Derived → Derived → Derived → Result Shaped Fault → Type 0
+Shapes x params a b c (Ok s) =
+    AllHold (shape_rules_of x params a b c) × (shown s.extents ≡ result_extents x a.extents b.extents c.extents) × (s.count ≡ count (shown s.extents))
+Shapes x params a b c (Err f) = FirstFailing (shape_rules_of x params a b c) (fault_number f)
 
--- the record of a node that meets rules 9 to 11 too, with its count of elements; or the rule that it breaks
-abbrev pub Values : Node → Derived → Derived → Derived → Judged → Type 0
-Values x a b c (Meets r n) = AllHold (value_rules_of x a b c) × (view_of r ≡ derived_of x a b c) × (n ≡ count (view_of r).extents)
-Values x a b c (Breaks number) = FirstFailing (value_rules_of x a b c) number
+-- the record of a node that meets rules 9 to 11 too; or the rule that it breaks
+abbrev pub Values : Node → Derived → Derived → Derived → Result Record Fault → Type 0
+Values x a b c (Ok r) = AllHold (value_rules_of x a b c) × (view_of r ≡ derived_of x a b c)
+Values x a b c (Err f) = FirstFailing (value_rules_of x a b c) (fault_number f)
 
--- the same of rules 5 to 11
-abbrev pub Judges : Node → ℕ → Derived → Derived → Derived → Judged → Type 0
-Judges x params a b c (Meets r n) =
-    AllHold (shape_rules_of x params a b c ++ value_rules_of x a b c) × (view_of r ≡ derived_of x a b c) × (n ≡ count (view_of r).extents)
-Judges x params a b c (Breaks number) = FirstFailing (shape_rules_of x params a b c ++ value_rules_of x a b c) number
+-- the record of a node that meets rules 5 to 11, with its count of elements; or the rule that it breaks
+abbrev pub Judges : Node → ℕ → Derived → Derived → Derived → Result Judged Fault → Type 0
+Judges x params a b c (Ok j) =
+    AllHold (shape_rules_of x params a b c ++ value_rules_of x a b c) × (view_of j.record ≡ derived_of x a b c) × (j.count ≡ count (view_of j.record).extents)
+Judges x params a b c (Err f) = FirstFailing (shape_rules_of x params a b c ++ value_rules_of x a b c) (fault_number f)
 
--- what rules 5 to 8 leave for those after them: the rules, and the shape e that n elements have
-pub record Ready (x : Node) (params : ℕ) (a b c : Derived) (e : Shape) (n : ℕ) : Type 0 where
-  pub known : is_operation x.op ≡ true
+-- what rules 5 to 8 leave for those after them: the rules, and the shape e of the result
+pub record Ready (x : Node) (params : ℕ) (a b c : Derived) (e : Shape) : Type 0 where
   pub held : AllHold (shape_rules_of x params a b c)
   pub shape : shown e ≡ result_extents x a.extents b.extents c.extents
-  pub counted : n ≡ count (shown e)
   pub few : count a.extents ≤ element_limit
 
 -- how many elements a REDUCE gathers of a source of extents s; at most the limit for every node
@@ -89,7 +83,7 @@ early_rules_of t i =
     ∷ rule 4 (sources_earlier (node_at t i) i)
     ∷ []
 
--- 0 where node i meets rules 2 to 4, or the first that it breaks
-pub record Early (t : List ℤ) (i r : ℕ) : Type 0 where
-  pub meets : r ≡ 0 → AllHold (early_rules_of t i)
-  pub breaks : (r ≡ 0 → ⊥) → FirstFailing (early_rules_of t i) r
+-- node i with its operation where it meets rules 2 to 4, or the first that it breaks
+abbrev pub Early : List ℤ → ℕ → Result Instruction Fault → Type 0
+Early t i (Ok x) = (x.node ≡ node_at t i) × AllHold (early_rules_of t i)
+Early t i (Err f) = FirstFailing (early_rules_of t i) (fault_number f)

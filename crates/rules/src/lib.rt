@@ -1,50 +1,47 @@
 // The rules of one node, and what is derived of it.
 #![tactic(auto)]
 
-ghost use Rattle.std.specs.Prelude.{◌≡◌, true, ℕ, ◌+◌, ◌*◌, ◌≤◌, ◌<◌, length, get_or};
-ghost use Rattle.rules.specs.Rules.{types_agree, one_device, join_device, devices_agree, device_named, param_right, sources_earlier, type_named, rows_right, no_source, divisor_right};
-ghost use Rattle.plan.specs.Operations.{masks, is_operation};
+ghost use Rattle.std.specs.Prelude.{◌≡◌, true, ℕ, ◌+◌, ◌*◌, ◌≤◌, ◌<◌, length};
+ghost use Rattle.rules.specs.Rules.{types_agree, one_device, join_device, devices_agree, device_named, param_right, sources_earlier, type_named, rows_right, stack_number, no_source, divisor_right};
+ghost use Rattle.plan.specs.Coded.{number_of};
 ghost use Rattle.plan.specs.Words.{node_at};
-ghost use Rattle.rules.specs.Code.{Masked, TypeOf, DeviceOf, view_of, Shapes, Gathers, Ready, Values, Judges, Early};
+ghost use Rattle.rules.specs.Code.{TypeOf, DeviceOf, view_of, Shapes, Gathers, Ready, Values, Judges, Early};
 ghost use Rattle.laws.specs.Numbering.{count};
 ghost use Rattle.shapes.specs.Shown.{shown};
 ghost use Rattle.bounds.specs.Narrow.{wide_of, Narrow};
 
 use bounds::Bounds;
-use plan::{Interval, Node, Operation};
+use plan::{Fault, Instruction, Interval, Node, Operation};
 use shapes::Shape;
 
 // Rule 6: the sources' types suit the operation. 0 is bool.
-fn types_agree(x: Node, a: u8, b: u8, c: u8) -> bool
-    requires { is_operation x.op ≡ true }
-    ensures { result ≡ types_agree x a b c }
+fn types_agree(x: Instruction, a: u8, b: u8, c: u8) -> bool
+    ensures { result ≡ types_agree x.node a b c }
 {
-    let op = x.op;
-    if op < 9 {
-        return true;
+    match x.op {
+        Operation::Const
+        | Operation::Param
+        | Operation::Permute
+        | Operation::Flip
+        | Operation::Reshape
+        | Operation::Expand
+        | Operation::Pad
+        | Operation::Shrink
+        | Operation::Cast
+        | Operation::Load
+        | Operation::Known => true,
+        Operation::Add
+        | Operation::Mul
+        | Operation::Max
+        | Operation::Idiv
+        | Operation::Mod
+        | Operation::CmpLt => (a == b) & (a != 0),
+        Operation::CmpNe | Operation::Fill => a == b,
+        Operation::And | Operation::Or => (a == b) & (a == 0),
+        Operation::Where => (a == 0) & (b == c),
+        Operation::Reduce => a != 0,
+        Operation::Stack => (a == b) & (!plan::in_number(x.node, 3) | (b == c)),
     }
-    if op < 15 {
-        return (a == b) & !(a == 0);
-    }
-    if op == 15 {
-        return a == b;
-    }
-    if op < 18 {
-        return (a == b) & (a == 0);
-    }
-    if op == 18 {
-        return (a == 0) & (b == c);
-    }
-    if op == 19 {
-        return !(a == 0);
-    }
-    if op == 21 {
-        return a == b;
-    }
-    if op == 23 {
-        return (a == b) & (!plan::in_number(x, 3) | (b == c));
-    }
-    true
 }
 
 // At most one of two devices is not 0, or they are the same.
@@ -69,48 +66,41 @@ fn devices_agree(d: u8, e: u8, f: u8) -> bool
 }
 
 // The device of a result.
-fn result_device(x: Node, d: u8, e: u8, f: u8) -> usize
-    requires { is_operation x.op ≡ true }
-    ensures { DeviceOf x d e f result }
+fn result_device(x: Instruction, d: u8, e: u8, f: u8) -> usize
+    ensures { DeviceOf x.node d e f result }
 {
-    let op = x.op;
-    if op == 0 {
-        return 0;
+    match x.op {
+        Operation::Const => 0,
+        Operation::Param | Operation::Load => x.node.device,
+        _ => join_device(join_device(d, e), f) as usize,
     }
-    if op == 1 {
-        return x.device;
-    }
-    if op == 20 {
-        return x.device;
-    }
-    join_device(join_device(d, e), f) as usize
 }
 
 // The type of a result.
-fn result_type(x: Node, a: u8, b: u8) -> usize
-    requires { is_operation x.op ≡ true }
-    ensures { TypeOf x a b result }
+fn result_type(x: Instruction, a: u8, b: u8) -> usize
+    ensures { TypeOf x.node a b result }
 {
-    let op = x.op;
-    if op < 2 {
-        return x.dtype;
+    match x.op {
+        Operation::Const | Operation::Param | Operation::Cast => x.node.dtype,
+        Operation::CmpLt | Operation::CmpNe | Operation::And | Operation::Or | Operation::Known =>
+            0,
+        Operation::Where => b as usize,
+        Operation::Permute
+        | Operation::Flip
+        | Operation::Reshape
+        | Operation::Expand
+        | Operation::Pad
+        | Operation::Shrink
+        | Operation::Add
+        | Operation::Mul
+        | Operation::Max
+        | Operation::Idiv
+        | Operation::Mod
+        | Operation::Reduce
+        | Operation::Load
+        | Operation::Fill
+        | Operation::Stack => a as usize,
     }
-    if op == 8 {
-        return x.dtype;
-    }
-    if op < 14 {
-        return a as usize;
-    }
-    if op < 18 {
-        return 0;
-    }
-    if op == 18 {
-        return b as usize;
-    }
-    if op == 22 {
-        return 0;
-    }
-    a as usize
 }
 
 // Rule 7: a device named is 1..255.
@@ -145,12 +135,10 @@ fn sources_earlier(x: Node, n: usize) -> bool
 }
 
 // Rule 5: a type that is named is one of the four.
-fn type_named(x: Node, mask: usize) -> bool
-    requires { Masked x.op mask }
-    ensures { result ≡ type_named x }
+fn type_named(x: Instruction) -> bool
+    ensures { result ≡ type_named x.node }
 {
-    let dtype = x.dtype;
-    !plan::uses_word(mask, 4) | (dtype <= 3)
+    !plan::uses_word(plan::used_mask(x.op.number()), 4) | (x.node.dtype <= 3)
 }
 
 // What is derived of a node.
@@ -162,18 +150,26 @@ pub struct Record {
     pub extents: Shape,
 }
 
-// A shape with its count of elements, or the number of the rule that the node breaks.
+// The records of a node's three sources, blank where it reads none.
 #[derive(Clone, Copy)]
-pub enum Shaped {
-    Fits(Shape, usize),
-    Misfits(usize),
+pub struct Sources {
+    pub first: Record,
+    pub second: Record,
+    pub third: Record,
 }
 
-// A record with its count of elements, or the number of the rule that the node breaks.
+// A shape with its count of elements.
 #[derive(Clone, Copy)]
-pub enum Judged {
-    Meets(Record, usize),
-    Breaks(usize),
+pub struct Shaped {
+    pub extents: Shape,
+    pub count: usize,
+}
+
+// A record with its count of elements.
+#[derive(Clone, Copy)]
+pub struct Judged {
+    pub record: Record,
+    pub count: usize,
 }
 
 // What stands for a source that is not used.
@@ -193,100 +189,102 @@ pub fn blank() -> Record
     }
 }
 
-// Rule 7: rows and numbers.
-fn rows_right(x: Node, params: usize, rank: usize) -> bool
-    requires { is_operation x.op ≡ true }
-    ensures { result ≡ rows_right x params rank }
+// A STACK's number is 2 or 3, and a third source is 0 where it has two.
+fn stack_number(x: Node) -> bool
+    ensures { result ≡ stack_number x }
 {
-    let op = x.op;
-    let a = x.rowa;
-    let b = x.rowb;
-    let number = x.number;
-    if op == 0 {
-        return true;
+    let sources = plan::size_of_word(x.number);
+    (sources == 3) | ((sources == 2) & (x.source3.0 == 0))
+}
+
+// Rule 7: rows and numbers.
+fn rows_right(x: Instruction, params: usize, rank: usize) -> bool
+    ensures { result ≡ rows_right x.node params rank }
+{
+    let node = x.node;
+    let a = node.rowa;
+    match x.op {
+        Operation::Const
+        | Operation::Cast
+        | Operation::Add
+        | Operation::Mul
+        | Operation::Max
+        | Operation::Idiv
+        | Operation::Mod
+        | Operation::CmpLt
+        | Operation::CmpNe
+        | Operation::And
+        | Operation::Or
+        | Operation::Where
+        | Operation::Fill
+        | Operation::Known => true,
+        Operation::Param => {
+            param_right(node, params) & (device_named(node) & shapes::is_shape_row(a))
+        }
+        Operation::Permute => shapes::is_permutation(rank, a),
+        Operation::Flip => shapes::is_flag_row(rank, a),
+        Operation::Reshape | Operation::Expand => shapes::is_shape_row(a),
+        Operation::Pad | Operation::Shrink => {
+            shapes::is_shape_row(a) & shapes::is_offset_row(rank, node.rowb)
+        }
+        Operation::Reduce => {
+            (plan::size_of_word(node.number) <= 1) & shapes::is_flag_row(rank, a)
+        }
+        Operation::Load => device_named(node),
+        Operation::Stack => stack_number(node),
     }
-    if op == 1 {
-        return param_right(x, params) & (device_named(x) & shapes::is_shape_row(a));
-    }
-    if op == 2 {
-        return shapes::is_permutation(rank, a);
-    }
-    if op == 3 {
-        return shapes::is_flag_row(rank, a);
-    }
-    if op < 6 {
-        return shapes::is_shape_row(a);
-    }
-    if op < 8 {
-        return shapes::is_shape_row(a) & shapes::is_offset_row(rank, b);
-    }
-    if op < 19 {
-        return true;
-    }
-    if op == 19 {
-        return (plan::size_of_word(number) <= 1) & shapes::is_flag_row(rank, a);
-    }
-    if op == 20 {
-        return device_named(x);
-    }
-    if op < 23 {
-        return true;
-    }
-    let third = x.source3;
-    let sources = plan::size_of_word(number);
-    (sources == 3) | ((sources == 2) & (third.0 == 0))
 }
 
 // Rules 5 to 8, and the shape of the result.
-fn shape_node(x: Node, mask: usize, params: usize, a: Record, b: Record, c: Record) -> Shaped
-    requires { (Masked x.op mask) × (count (shown a.extents) ≤ 1048576) }
-    ensures { Shapes x params (view_of a) (view_of b) (view_of c) result }
+fn shape_node(x: Instruction, params: usize, sources: Sources) -> Result<Shaped, Fault>
+    requires { count (shown sources.first.extents) ≤ 1048576 }
+    ensures { Shapes x.node params (view_of sources.first) (view_of sources.second) (view_of sources.third) result }
 {
-    let op = x.op;
-    let s = a.extents;
-    let t = b.extents;
-    let u = c.extents;
-    if !type_named(x, mask) {
-        return Shaped::Misfits(5);
+    let a = sources.first;
+    let b = sources.second;
+    let c = sources.third;
+    if !type_named(x) {
+        return Err(Fault::TypeNumber);
     }
     if !types_agree(x, a.dtype, b.dtype, c.dtype) {
-        return Shaped::Misfits(6);
+        return Err(Fault::OperandTypes);
     }
-    if !rows_right(x, params, shapes::rank(s)) {
-        return Shaped::Misfits(7);
+    if !rows_right(x, params, shapes::rank(a.extents)) {
+        return Err(Fault::RowOrNumber);
     }
-    if !shaping::shapes_agree(x, s, t, u) {
-        return Shaped::Misfits(8);
+    if !shaping::shapes_agree(x, a.extents, b.extents, c.extents) {
+        return Err(Fault::Shapes);
     }
-    let e = shaping::result_shape(x, s, t, u);
-    let n = shaping::count(e);
-    if 1048576 < n {
-        return Shaped::Misfits(8);
+    let extents = shaping::result_shape(x, a.extents, b.extents, c.extents);
+    let count = shaping::count(extents);
+    if 1048576 < count {
+        return Err(Fault::Shapes);
     }
-    Shaped::Fits(e, n)
+    Ok(Shaped { extents, count })
 }
 
 // How many elements a REDUCE gathers; 1 for any other operation.
-fn gathers(x: Node, s: Shape) -> usize
+fn gathers(x: Instruction, s: Shape) -> usize
     requires { count (shown s) ≤ 1048576 }
-    ensures { Gathers x (shown s) result }
+    ensures { Gathers x.node (shown s) result }
 {
-    let op = x.op;
-    let flags = x.rowa;
-    if op == 19 {
-        return shaping::gathered_count(s, flags);
+    match x.op {
+        Operation::Reduce => shaping::gathered_count(s, x.node.rowa),
+        _ => 1,
     }
-    1
 }
 
 // Rule 10: a divisor's bounds do not hold 0.
-fn divisor_right(op: usize, b: Interval) -> bool
-    ensures { result ≡ divisor_right op b }
+fn divisor_right(op: Operation, b: Interval) -> bool
+    ensures { result ≡ divisor_right (number_of op) b }
 {
-    !((op == 12) | (op == 13)) | !bounds::holds_zero(b)
+    match op {
+        Operation::Idiv | Operation::Mod => !bounds::holds_zero(b),
+        _ => true,
+    }
 }
 
-// An interval that fits 32 bits, as such.
+// An interval that fits 32 bits, as such. No TryFrom: rule 11 has found that it fits, and a refusal here would never be given.
 fn narrow(x: Interval) -> Bounds
     requires { Narrow x }
     ensures { wide_of result ≡ x }
@@ -299,72 +297,72 @@ fn narrow(x: Interval) -> Bounds
     }
 }
 
-// Rules 9 to 11, and the record of a node of shape e with n elements.
-fn value_node(x: Node, params: usize, a: Record, b: Record, c: Record, e: Shape, n: usize) -> Judged
-    requires { Ready x params (view_of a) (view_of b) (view_of c) e n }
-    ensures { Values x (view_of a) (view_of b) (view_of c) result }
+// Rules 9 to 11, and the record of a node of these extents.
+fn value_node(
+    x: Instruction,
+    params: usize,
+    sources: Sources,
+    extents: Shape,
+) -> Result<Record, Fault>
+    requires { Ready x.node params (view_of sources.first) (view_of sources.second) (view_of sources.third) extents }
+    ensures { Values x.node (view_of sources.first) (view_of sources.second) (view_of sources.third) result }
 {
-    let op = x.op;
-    let s = a.extents;
-    let ba = a.bounds;
-    let bb = b.bounds;
-    let bc = c.bounds;
+    let a = sources.first;
+    let b = sources.second;
+    let c = sources.third;
     if !devices_agree(a.device, b.device, c.device) {
-        return Judged::Breaks(9);
+        return Err(Fault::Devices);
     }
-    let divisor = bounds::wide(bb);
-    if !divisor_right(op, divisor) {
-        return Judged::Breaks(10);
+    let divisor = bounds::wide(b.bounds);
+    if !divisor_right(x.op, divisor) {
+        return Err(Fault::ZeroDivisor);
     }
-    let gathered = gathers(x, s);
-    let first = bounds::wide(ba);
-    let third = bounds::wide(bc);
+    let gathered = gathers(x, a.extents);
+    let first = bounds::wide(a.bounds);
+    let third = bounds::wide(c.bounds);
     let range = bounds::result_bounds(x, gathered, first, divisor, third);
     let dtype = result_type(x, a.dtype, b.dtype);
     if !bounds::in_type(dtype, range) {
-        return Judged::Breaks(11);
+        return Err(Fault::ResultRange);
     }
     let device = result_device(x, a.device, b.device, c.device);
-    let ends = narrow(range);
-    Judged::Meets(
-        Record {
-            dtype: dtype as u8,
-            device: device as u8,
-            bounds: ends,
-            extents: e,
-        },
-        n,
-    )
+    Ok(Record {
+        dtype: dtype as u8,
+        device: device as u8,
+        bounds: narrow(range),
+        extents,
+    })
 }
 
-// Rules 5 to 11 of a node whose sources are a, b and c, with `params` PARAMs before it.
-pub fn judge(x: Node, mask: usize, params: usize, a: Record, b: Record, c: Record) -> Judged
-    requires { (Masked x.op mask) × (count (shown a.extents) ≤ 1048576) }
-    ensures { Judges x params (view_of a) (view_of b) (view_of c) result }
+// Rules 5 to 11 of a node with these sources, with `params` PARAMs before it.
+pub fn judge(x: Instruction, params: usize, sources: Sources) -> Result<Judged, Fault>
+    requires { count (shown sources.first.extents) ≤ 1048576 }
+    ensures { Judges x.node params (view_of sources.first) (view_of sources.second) (view_of sources.third) result }
 {
-    let shaped = shape_node(x, mask, params, a, b, c);
-    match shaped {
-        Shaped::Misfits(number) => Judged::Breaks(number),
-        Shaped::Fits(e, n) => value_node(x, params, a, b, c, e, n),
-    }
+    let shaped = shape_node(x, params, sources)?;
+    let record = value_node(x, params, sources, shaped.extents)?;
+    Ok(Judged {
+        record,
+        count: shaped.count,
+    })
 }
 
-// Rules 2 to 4: the number of the first that node i breaks, 0 where it breaks none.
-pub fn early(table: &[i64], i: usize, x: Node, mask: usize) -> usize
-    requires { (17 * i + 17 ≤ length table.now) × (x ≡ node_at table.now i) × (mask ≡ get_or masks x.op 0) }
+// Rules 2 to 4 of node i: the node with its operation.
+pub fn early(table: &[i64], i: usize, x: Node) -> Result<Instruction, Fault>
+    requires { (17 * i + 17 ≤ length table.now) × (x ≡ node_at table.now i) }
     ensures { Early table.now i result }
 {
-    let op = match Operation::try_from(x.op) {
-        Ok(op) => op,
-        Err(_) => return 2,
+    let decoded = match Instruction::try_from(x) {
+        Ok(decoded) => decoded,
+        Err(_) => return Err(Fault::NoOperation),
     };
     let start = 17 * i;
     let end = start + 17;
-    if !plan::unused_zero(op, &table[start..end]) {
-        return 3;
+    if !plan::unused_zero(decoded.op, &table[start..end]) {
+        return Err(Fault::UnusedWord);
     }
     if !sources_earlier(x, i) {
-        return 4;
+        return Err(Fault::Source);
     }
-    0
+    Ok(decoded)
 }

@@ -1,19 +1,23 @@
-use Rattle.rules.proofs.Narrowing.{placed}
+use mathlib.Core.Path.{◌≡◌, refl}
+use native.Mathlib.Omega.{arith}
 use borrow.Author.Rules.{rules}
-use Rattle.rules.proofs.DeviceRule.{device-laws, device_joined}
+use Rattle.laws.specs.Lists.{among}
+use Rattle.plan.proofs.Coded.{number_is}
+use Rattle.rules.specs.Rules.{result_device, join_device}
+use Rattle.rules.proofs.Narrowing.{placed}
 use Rattle.rules.proofs.result_device.Goals as goal
 
-pub returns-then-op-eq0 : goal.returns-then-op-eq0
-returns-then-op-eq0 c = placed _ _ _ _ (search rules) (search rules) (search rules) (search device-laws)
+pub returns-in-Const : goal.returns-in-Const
+unfolding result_device among
+returns-in-Const c = placed _ _ _ _ (search rules) (search rules) (search rules) (rw (number_is c.args.x c.in-Const.is) refl)
 
-pub returns-then-op-eq1 : goal.returns-then-op-eq1
-returns-then-op-eq1 c = placed _ _ _ _ (search rules) (search rules) (search rules) (search device-laws)
+pub returns-in-Param : goal.returns-in-Param
+unfolding result_device among
+returns-in-Param c = let q = c.args.x.named in placed _ _ _ _ (search rules) (search rules) (search rules) (grind arith)
 
-pub returns-then-op-eq20 : goal.returns-then-op-eq20
-returns-then-op-eq20 c = placed _ _ _ _ (search rules) (search rules) (search rules) (search device-laws)
-
-pub returns : goal.returns
-returns c =
-    placed _ _ _ _ (search rules) (search rules) (search rules)
-    (simp (c.join_device-2.ensures, c.join_device.ensures)
-    (device_joined _ _ _ _ c.if-op-eq0.false c.if-op-eq1.false c.if-op-eq20.false c.requires))
+pub returns-in_default : goal.returns-in_default
+unfolding result_device among
+returns-in_default c =
+    let q = c.args.x.named in
+    let e : join_device (join_device c.args.d c.args.e) c.args.f ≡ result_device c.args.x.node c.args.d c.args.e c.args.f = grind arith in
+    placed _ _ _ _ (search rules) (search rules) (search rules) (simp (c.join_device-in_default.ensures, c.join_device.ensures) e)

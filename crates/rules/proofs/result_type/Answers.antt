@@ -1,25 +1,24 @@
+use mathlib.Core.Path.{refl}
+use native.Mathlib.Omega.{arith}
 use borrow.Author.Rules.{rules}
+use Rattle.laws.specs.Lists.{among}
+use Rattle.plan.proofs.Coded.{number_is}
+use Rattle.rules.specs.Rules.{result_type}
 use Rattle.rules.proofs.Narrowing.{typed}
-use Rattle.rules.proofs.TypeRule.{result-type-laws}
 use Rattle.rules.proofs.result_type.Goals as goal
 
-pub returns-then-op-lt2 : goal.returns-then-op-lt2
-returns-then-op-lt2 c = typed _ _ _ (search rules) (search rules) (search result-type-laws)
+pub returns-in-Const : goal.returns-in-Const
+unfolding result_type among
+returns-in-Const c = let q = c.args.x.named in typed _ _ _ (search rules) (search rules) (grind arith)
 
-pub returns-then-op-eq8 : goal.returns-then-op-eq8
-returns-then-op-eq8 c = typed _ _ _ (search rules) (search rules) (search result-type-laws)
+pub returns-in-CmpLt : goal.returns-in-CmpLt
+unfolding result_type among
+returns-in-CmpLt c = let q = c.args.x.named in typed _ _ _ (search rules) (search rules) (grind arith)
 
-pub returns-then-op-lt14 : goal.returns-then-op-lt14
-returns-then-op-lt14 c = typed _ _ _ (search rules) (search rules) (search result-type-laws)
+pub returns-in-Permute : goal.returns-in-Permute
+unfolding result_type among
+returns-in-Permute c = let q = c.args.x.named in typed _ _ _ (search rules) (search rules) (grind arith)
 
-pub returns-then-op-lt18 : goal.returns-then-op-lt18
-returns-then-op-lt18 c = typed _ _ _ (search rules) (search rules) (search result-type-laws)
-
-pub returns-then-op-eq18 : goal.returns-then-op-eq18
-returns-then-op-eq18 c = typed _ _ _ (search rules) (search rules) (search result-type-laws)
-
-pub returns-then-op-eq22 : goal.returns-then-op-eq22
-returns-then-op-eq22 c = typed _ _ _ (search rules) (search rules) (search result-type-laws)
-
-pub returns : goal.returns
-returns c = typed _ _ _ (search rules) (search rules) (search result-type-laws)
+pub returns-in-Where : goal.returns-in-Where
+unfolding result_type among
+returns-in-Where c = typed _ _ _ (search rules) (search rules) (rw (number_is c.args.x c.in-Where.is) refl)

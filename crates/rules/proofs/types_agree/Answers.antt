@@ -1,29 +1,34 @@
-use Rattle.rules.proofs.TypeRule.{type-laws}
+use mathlib.Core.Path.{refl}
+use native.Mathlib.Omega.{arith}
+use Rattle.laws.specs.Lists.{among}
+use Rattle.plan.proofs.Coded.{number_is}
+use Rattle.rules.specs.Rules.{types_agree}
+use Rattle.rules.proofs.TypeRule.{types_stack}
 use Rattle.rules.proofs.types_agree.Goals as goal
 
-pub returns-then-op-lt9 : goal.returns-then-op-lt9
-returns-then-op-lt9 c = search type-laws
+pub returns-in-Const : goal.returns-in-Const
+unfolding types_agree among
+returns-in-Const c = let q = c.args.x.named in grind arith
 
-pub returns-then-op-lt15 : goal.returns-then-op-lt15
-returns-then-op-lt15 c = search type-laws
+pub returns-in-Add : goal.returns-in-Add
+unfolding types_agree among
+returns-in-Add c = let q = c.args.x.named in grind arith
 
-pub returns-then-op-eq15 : goal.returns-then-op-eq15
-returns-then-op-eq15 c = search type-laws
+pub returns-in-CmpNe : goal.returns-in-CmpNe
+unfolding types_agree among
+returns-in-CmpNe c = let q = c.args.x.named in grind arith
 
-pub returns-then-op-lt18 : goal.returns-then-op-lt18
-returns-then-op-lt18 c = search type-laws
+pub returns-in-And : goal.returns-in-And
+unfolding types_agree among
+returns-in-And c = let q = c.args.x.named in grind arith
 
-pub returns-then-op-eq18 : goal.returns-then-op-eq18
-returns-then-op-eq18 c = search type-laws
+pub returns-in-Where : goal.returns-in-Where
+unfolding types_agree among
+returns-in-Where c = rw (number_is c.args.x c.in-Where.is) refl
 
-pub returns-then-op-eq19 : goal.returns-then-op-eq19
-returns-then-op-eq19 c = search type-laws
+pub returns-in-Reduce : goal.returns-in-Reduce
+unfolding types_agree among
+returns-in-Reduce c = rw (number_is c.args.x c.in-Reduce.is) refl
 
-pub returns-then-op-eq21 : goal.returns-then-op-eq21
-returns-then-op-eq21 c = search type-laws
-
-pub returns-then-op-eq23 : goal.returns-then-op-eq23
-returns-then-op-eq23 c = search type-laws
-
-pub returns : goal.returns
-returns c = search type-laws
+pub returns-in-Stack : goal.returns-in-Stack
+returns-in-Stack c = types_stack c.args.x.node _ _ _ (number_is c.args.x c.in-Stack.is) c.in_number.ensures
