@@ -4,7 +4,6 @@
 ghost use Rattle.std.specs.Prelude.{◌≡◌, true, ℕ, ◌+◌, ◌*◌, ◌≤◌, ◌<◌, length};
 ghost use Rattle.rules.specs.Rules.{types_agree, one_device, join_device, devices_agree, device_named, param_right, sources_earlier, type_named, rows_right, stack_number, no_source, divisor_right};
 ghost use Rattle.plan.specs.Coded.{number_of};
-ghost use Rattle.plan.specs.Words.{node_at};
 ghost use Rattle.rules.specs.Code.{TypeOf, DeviceOf, view_of, Shapes, Gathers, Ready, Values, Judges, Early};
 ghost use Rattle.laws.specs.Numbering.{count};
 ghost use Rattle.shapes.specs.Shown.{shown};
@@ -348,21 +347,21 @@ pub fn judge(x: Instruction, params: usize, sources: Sources) -> Result<Judged, 
 }
 
 // Rules 2 to 4 of node i: the node with its operation.
-pub fn early(table: &[i64], i: usize, x: Node) -> Result<Instruction, Fault>
-    requires { (17 * i + 17 ≤ length table.now) × (x ≡ node_at table.now i) }
+pub fn early(table: &[i64], i: usize) -> Result<Instruction, Fault>
+    requires { 17 * i + 17 ≤ length table.now }
     ensures { Early table.now i result }
 {
-    let decoded = match Instruction::try_from(x) {
-        Ok(decoded) => decoded,
+    let x = match Instruction::try_from(plan::node_at(table, i)) {
+        Ok(x) => x,
         Err(_) => return Err(Fault::NoOperation),
     };
     let start = 17 * i;
     let end = start + 17;
-    if !plan::unused_zero(decoded.op, &table[start..end]) {
+    if !plan::unused_zero(x.op, &table[start..end]) {
         return Err(Fault::UnusedWord);
     }
-    if !sources_earlier(x, i) {
+    if !sources_earlier(x.node, i) {
         return Err(Fault::Source);
     }
-    Ok(decoded)
+    Ok(x)
 }

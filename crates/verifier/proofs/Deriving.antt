@@ -1,4 +1,5 @@
 -- The loop over the nodes: what is known before node i, and each way on from it.
+use Rattle.std.specs.Prelude.{Ok, Err}
 use Prim.Native.Nat.{ℕ, zero, suc, ◌+◌, ◌<◌, ◌≤◌}
 use mathlib.Core.Path.{◌≡◌, refl, sym, ap, ◌∙◌}
 use mathlib.Core.Bool.{Bool, true, false, cond}
@@ -18,17 +19,16 @@ use Rattle.plan.specs.declared.Node.{Node}
 use Rattle.plan.specs.declared.NodeNumber.{NodeNumber}
 use Rattle.plan.specs.declared.faults.Fault.{Fault}
 use Rattle.plan.specs.declared.faults.Refusal.{Refusal as Refused}
-use Rattle.plan.specs.Operations.{masks}
 use Rattle.plan.specs.Words.{node_at, over_params, params_before, reads}
 use Rattle.plan.specs.Answers.{Outcome, accepted, refuse, in_turn, AllHold, FirstFailing}
 use Rattle.plan.specs.Coded.{fault_number}
 use Rattle.plan.proofs.Outcomes.{first_front, first_back, all_both, order_fails, order_holds, turn_more, turn_stays}
 use Rattle.shapes.specs.Rules.{element_limit, shapes_agree, result_extents}
 use Rattle.rules.specs.declared.Record.{Record}
-use Rattle.rules.specs.declared.Judged.TheVariants.{Meets, Breaks as Misses}
+use Rattle.rules.specs.declared.Judged.{Judged}
 use Rattle.rules.specs.Rules.{Derived, no_source, source_of, derived_of, shape_right}
 use Rattle.verifier.specs.Check.{first, second, third, derive_node, node_rules, check_node, check_to, count_of, total_of}
-use Rattle.rules.specs.Code.{Masked, view_of, early_rules_of, shape_rules_of, value_rules_of, Judges, Early}
+use Rattle.rules.specs.Code.{view_of, early_rules_of, shape_rules_of, value_rules_of, Judges, Early}
 use Rattle.verifier.specs.Verdicts.{Accepts, Breaks}
 use Rattle.verifier.proofs.Accepted.{checked_meets}
 use Rattle.verifier.proofs.Numbers.{OfNode, number_of}
@@ -55,9 +55,9 @@ pub so_far_none : (t : List ℤ) (ds : List Record) → length ds ≡ 256 → So
 unfolding in_turn over_params total_of sum
 so_far_none t ds l = record { size = l; checked = refl; turn = refl; summed = refl }
 
--- what rules 5 to 11 say of a number
-pub late_number : (x : Node) (params : ℕ) (a b c : Derived) (number : ℕ) → Judges x params a b c (Misses number) → OfNode number
-late_number x params a b c number f = number_of (shape_rules_of x params a b c ++ value_rules_of x a b c) number refl f
+-- what rules 5 to 11 say of a refusal's number
+late_number : (x : Node) (params : ℕ) (a b c : Derived) (f : Fault) → Judges x params a b c (Err f) → OfNode (fault_number f)
+late_number x params a b c f j = number_of (shape_rules_of x params a b c ++ value_rules_of x a b c) (fault_number f) refl j
 
 module _ (t : List ℤ) (i : ℕ) (ds : List Record) (params total : ℕ) (so : SoFar t i ds params total) (small : i ≤ 256) where
   abbrev earlier : List Derived
@@ -102,12 +102,9 @@ module _ (t : List ℤ) (i : ℕ) (ds : List Record) (params total : ℕ) (so : 
               (turn_more (check_node t) [] i so.checked ∙ order_fails (node_rules t i earlier) i (accepted (earlier ++ derive_node t i earlier ∷ [])) f);
         }
 
-    pub early_number : (number : ℕ) → Early t i number → (number ≡ 0 → ⊥) → OfNode number
-    early_number number e z = number_of (early_rules_of t i) number refl (e.breaks z)
-
-    pub stop_early : (number : ℕ) → Early t i number → (number ≡ 0 → ⊥) → Stops t n number i
+    pub stop_early : (f : Fault) → Early t i (Err f) → Stops t n (fault_number f) i
     unfolding node_rules node_at
-    stop_early number e z = stop number (early_number number e z) (first_front _ (e.breaks z))
+    stop_early f e = stop (fault_number f) (number_of (early_rules_of t i) (fault_number f) refl e) (first_front _ e)
 
   -- ---- rules 5 to 11, with the sources that the code picked
 
@@ -121,11 +118,17 @@ module _ (t : List ℤ) (i : ℕ) (ds : List Record) (params total : ℕ) (so : 
     unfolding derive_node
     derived_is = rw (ea, eb, ec, q) refl
 
-    pub stop_late : (n : ℕ) → i < n → (number : ℕ) → Judges x params a b c (Misses number) → Stops t n number i
-    stop_late n l number f =
-        stop n l number (late_number x params a b c number f) (rw rules_are (first_back (early_rules_of t i) h f))
+    pub stop_late : (n : ℕ) → i < n → (f : Fault) → Judges x params a b c (Err f) → Stops t n (fault_number f) i
+    stop_late n l f j =
+        stop n l (fault_number f) (late_number x params a b c f j) (rw rules_are (first_back (early_rules_of t i) h j))
 
-    module _ (r : Record) (n : ℕ) (l : i < 256) (j : Judges x params a b c (Meets r n)) where
+    module _ (judged : Judged) (l : i < 256) (j : Judges x params a b c (Ok judged)) where
+      abbrev r : Record
+      r = judged.record
+
+      abbrev n : ℕ
+      n = judged.count
+
       records_are : map view_of (take (suc i) (set ds i r)) ≡ map view_of (take i ds) ++ view_of r ∷ []
       records_are = ap (map view_of) (take-suc-set ds i r (omega (arith, so.size))) ∙ map-append view_of (take i ds) (r ∷ [])
 
@@ -151,9 +154,6 @@ module _ (t : List ℤ) (i : ℕ) (ds : List Record) (params total : ℕ) (so : 
 
 -- what rules 2 to 4 say of the node that the code read
 module _ (t : List ℤ) (i : ℕ) (x : Node) (q : x ≡ node_at t i) (h : AllHold (early_rules_of t i)) where
-  pub masked_of : (mask : ℕ) → mask ≡ get_or masks x.op 0 → Masked x.op mask
-  masked_of mask e = record { known = rw q h.0; is_mask = e }
-
   pub before_of : (reads x 1 ≡ true → x.source1.0 < i) × (reads x 2 ≡ true → x.source2.0 < i) × (reads x 3 ≡ true → x.source3.0 < i)
   before_of = rw q (sources_before (node_at t i) i h.1.1.0)
 
@@ -168,19 +168,18 @@ unfolding over_params
 params_few t zero = omega arith
 params_few t (suc i) = omega (arith, params_few t i, one_or_none (eqb (node_at t i).op 1))
 
-pub judged_few : (x : Node) (params : ℕ) (a b c : Derived) (r : Record) (n : ℕ) → Judges x params a b c (Meets r n) → n ≤ 1048576
+pub judged_few : (x : Node) (params : ℕ) (a b c : Derived) (r : Judged) → Judges x params a b c (Ok r) → r.count ≤ 1048576
 unfolding shape_right derived_of
-judged_few x params a b c r n j =
+judged_few x params a b c r j =
     let limit = leb-true _ _ (and_true (shapes_agree x a.extents b.extents c.extents) _ j.0.1.1.1.0).1 in
-    let extents : (view_of r).extents ≡ result_extents x a.extents b.extents c.extents = ap (λ (d : Derived). d.extents) j.1 in
+    let extents : (view_of r.record).extents ≡ result_extents x a.extents b.extents c.extents = ap (λ (d : Derived). d.extents) j.1 in
     rw (j.2, extents) limit
 
 -- ---- the ways out
 
 module _ (t : List ℤ) (n : ℕ) where
-  pub derives_stop : (number place : ℕ) {f : Fault} {e : Refused} → Stops t n number place → fault_number f ≡ number → e ≡ record { fault = f; place = place } → Breaks (check_to t n) n e
-  derives_stop number place s q is =
-      rw is (record { is_check = rw q s.refuses; small = (omega (arith, s.range, q), omega (arith, s.place)) })
+  pub derives_stop : (f : Fault) (place : ℕ) {e : Refused} → Stops t n (fault_number f) place → e ≡ record { fault = f; place = place } → Breaks (check_to t n) n e
+  derives_stop f place s is = rw is (record { is_check = s.refuses; small = (omega (arith, s.range), omega (arith, s.place)) })
 
   pub derives_done : (ds : List Record) (params total : ℕ) → SoFar t n ds params total → Accepts (check_to t n) n (record { count = n; total = total; records = ds })
   derives_done ds params total so = record { is_check = so.checked; is_total = so.summed; few = omega arith; long = so.size }

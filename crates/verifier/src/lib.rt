@@ -14,7 +14,7 @@ ghost use Rattle.verifier.specs.Verdicts.{Derives, Ends, code_in};
 
 use codec::Plan;
 use plan::{Fault, Node, NodeNumber, Refusal};
-use rules::{Judged, Record};
+use rules::{Record, Sources};
 
 // Rule 12: all nodes together have at most so many elements.
 const TOTAL_LIMIT: usize = 4194304;
@@ -64,25 +64,6 @@ fn one_if_param(op: usize) -> usize
     if op == 1 { 1 } else { 0 }
 }
 
-// The refusal of a rule, by its number.
-fn rule_broken(number: usize) -> Fault
-    requires { (2 ≤ number) × (number ≤ 11) }
-    ensures { fault_number result ≡ number }
-{
-    match number {
-        2 => Fault::NoOperation,
-        3 => Fault::UnusedWord,
-        4 => Fault::Source,
-        5 => Fault::TypeNumber,
-        6 => Fault::OperandTypes,
-        7 => Fault::RowOrNumber,
-        8 => Fault::Shapes,
-        9 => Fault::Devices,
-        10 => Fault::ZeroDivisor,
-        _ => Fault::ResultRange,
-    }
-}
-
 // Rules 2 to 11 of the first `count` nodes in turn.
 pub fn derive(table: &[i64], count: usize) -> Result<Derivation, Refusal>
     requires { (17 * count ≤ length table.now) × (count ≤ 256) }
@@ -93,30 +74,26 @@ pub fn derive(table: &[i64], count: usize) -> Result<Derivation, Refusal>
     let mut params = 0;
     let mut total = 0;
     for i in 0..count {
-        let x = plan::node_at(table, i);
-        let op = x.op;
-        let mask = plan::used_mask(op);
-        let broken = rules::early(table, i, x, mask);
-        if broken != 0 {
-            return Err(rule_broken(broken).at(i));
-        }
-        let place1 = source_place(x.source1, i);
-        let place2 = source_place(x.source2, i);
-        let place3 = source_place(x.source3, i);
-        let a = source_record(x, 1, records[place1]);
-        let b = source_record(x, 2, records[place2]);
-        let c = source_record(x, 3, records[place3]);
-        let judged = rules::judge(x, mask, params, a, b, c);
-        match judged {
-            Judged::Breaks(number) => {
-                return Err(rule_broken(number).at(i));
-            }
-            Judged::Meets(r, n) => {
-                records[i] = r;
-                total += n;
-                params += one_if_param(op);
-            }
-        }
+        let x = match rules::early(table, i) {
+            Ok(x) => x,
+            Err(fault) => return Err(fault.at(i)),
+        };
+        let node = x.node;
+        let place1 = source_place(node.source1, i);
+        let place2 = source_place(node.source2, i);
+        let place3 = source_place(node.source3, i);
+        let sources = Sources {
+            first: source_record(node, 1, records[place1]),
+            second: source_record(node, 2, records[place2]),
+            third: source_record(node, 3, records[place3]),
+        };
+        let judged = match rules::judge(x, params, sources) {
+            Ok(judged) => judged,
+            Err(fault) => return Err(fault.at(i)),
+        };
+        records[i] = judged.record;
+        total += judged.count;
+        params += one_if_param(node.op);
     }
     Ok(Derivation {
         count,
