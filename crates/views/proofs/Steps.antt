@@ -1,14 +1,12 @@
 -- How far the steps of a view reach.
-use Prim.Native.Nat.{ℕ, zero, suc, ◌+◌, ◌*◌, ◌-◌, ◌/◌, ◌%◌, ◌^◌, ◌≤◌, ◌<◌}
+use Prim.Native.Nat.{ℕ, suc, ◌+◌, ◌*◌, ◌-◌, ◌/◌, ◌%◌, ◌^◌, ◌≤◌, ◌<◌}
 use mathlib.Core.Path.{◌≡◌, refl, ap, ◌∙◌}
 use mathlib.Core.List.{List, [], ◌∷◌}
 use lib.Dec.{eqb}
 use lib.ListN.{length, get_or, take}
 use native.Mathlib.Omega.{arith}
 use native.Mathlib.Nat.{mul_comm, mul_assoc, mul-add, mul-le-mul_right, le-mul_of_pos_right, mod-lt, div-lt_iff_lt-mul}
-use mathlib.Core.Bool.{true, ◌&&◌}
-use borrow.Author.Tests.{eqb-true}
-use Rattle.laws.proofs.Booleans.{cond_both, and_true}
+use Rattle.laws.proofs.Booleans.{cond_both}
 use Rattle.laws.proofs.Numbering.{factor_pos}
 use Rattle.plan.specs.declared.Row.{Row}
 use Rattle.plan.specs.Words.{list_of}
@@ -16,7 +14,7 @@ use Rattle.shapes.specs.Rows.{extents_of}
 use Rattle.views.specs.declared.Stride.{Stride}
 use Rattle.views.specs.declared.View.{View}
 use Rattle.views.specs.Views.{stride_of, step, span, rows_of, row_place, row_reach, place, reach}
-use Rattle.views.specs.Strides.{Extents, strides_of, up_by, axis_stride}
+use Rattle.views.specs.Strides.{strides_of, up_by, axis_stride}
 
 pub step_le : (n : ℕ) (s : Stride) (c : ℕ) → c < n → step n s c ≤ span n s
 unfolding step span
@@ -74,13 +72,6 @@ place_le g v j h =
 pub cut : (a b : ℕ) {n : ℕ} → 0 < a → a * b ≤ n → b ≤ n
 cut a b p h = omega (arith, rw (mul_comm b a) at (le-mul_of_pos_right b p))
 
-module _ (g : Row) (e : Extents g) where
-  pub cube_few : g.r1 * (g.r2 * g.r3) ≤ 1048576
-  cube_few = cut g.r0 _ e.p0 e.few
-
-  pub plane_few : g.r2 * g.r3 ≤ 1048576
-  plane_few = cut g.r1 _ e.p1 cube_few
-
 -- n steps are less than twice the span of n coordinates, where n is not 1
 twice : (n s : ℕ) → (n ≡ 1 → ⊥) → n * s ≤ 2 * ((n - 1) * s)
 twice n s h = let p : n * s ≤ 2 * (n - 1) * s = mul-le-mul_right s (omega arith) in rw mul_assoc at p
@@ -113,18 +104,5 @@ extents_first (n ∷ ns) =
     cond_both (λ (l : List ℕ). take (length l) (n ∷ ns) ≡ l) (eqb n 0) [] (n ∷ extents_of ns) (λ _. refl) (λ _. ap (λ (l : List ℕ). n ∷ l) (extents_first ns))
 
 -- a stride by its two numbers
-pub stride_is : (s : Stride) (up down : ℕ) → (eqb s.up up && eqb s.down down) ≡ true → s ≡ stride_of up down
-stride_is s up down e =
-    let b = and_true (eqb s.up up) (eqb s.down down) e in
-    rw (← eqb-true s.up up b.0, ← eqb-true s.down down b.1) refl
-
 pub stride_both : {s : Stride} {up down : ℕ} → s.up ≡ up → s.down ≡ down → s ≡ stride_of up down
 stride_both p q = rw (← p, ← q) refl
-
--- a row has four words
-pub past_four : (row : Row) (k : ℕ) → (k ≡ 0 → ⊥) → (k ≡ 1 → ⊥) → (k ≡ 2 → ⊥) → (k ≡ 3 → ⊥) → 0 ≡ get_or (list_of row) k 0
-past_four row zero h0 h1 h2 h3 = absurd (h0 refl)
-past_four row (suc zero) h0 h1 h2 h3 = absurd (h1 refl)
-past_four row (suc (suc zero)) h0 h1 h2 h3 = absurd (h2 refl)
-past_four row (suc (suc (suc zero))) h0 h1 h2 h3 = absurd (h3 refl)
-past_four row (suc (suc (suc (suc k)))) h0 h1 h2 h3 = refl

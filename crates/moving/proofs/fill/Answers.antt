@@ -1,5 +1,5 @@
-use Rattle.std.proofs.Common.{refl, rules}
-use Rattle.laws.proofs.Store.{store_none, store_step, store_done}
+use Rattle.std.proofs.Common.{refl}
+use Rattle.laws.proofs.Store.{store_none, store_step}
 use Rattle.moving.proofs.fill.Goals as goal
 
 pub loop-i-init : goal.loop-i-init

@@ -1,6 +1,4 @@
-use native.Mathlib.Omega.{arith}
 use Rattle.views.specs.Walks.{row_inside}
-use Rattle.views.proofs.Steps.{third_pos, second_pos}
 use Rattle.moving.proofs.row_inside.Goals as goal
 
 pub returns : goal.returns

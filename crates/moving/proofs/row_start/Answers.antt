@@ -1,6 +1,5 @@
 use native.Mathlib.Omega.{arith}
 use Rattle.views.specs.Walks.{row_start}
-use Rattle.views.proofs.Steps.{third_pos, second_pos}
 use Rattle.views.proofs.Padding.{first_in, second_in, third_in, row_in_source}
 use Rattle.moving.proofs.Bands.{start_fits}
 use Rattle.moving.proofs.row_start.Goals as goal

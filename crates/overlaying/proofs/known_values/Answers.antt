@@ -1,7 +1,7 @@
 use Rattle.std.proofs.Common.{◌∙◌, rules}
 use mir.Facts.{to_z-of_z}
 use mir.Syntax.{w64}
-use Rattle.laws.proofs.Store.{store_none, store_step, store_done}
+use Rattle.laws.proofs.Store.{store_none, store_step}
 use Rattle.overlaying.proofs.known_values.Goals as goal
 
 pub loop-i-init : goal.loop-i-init

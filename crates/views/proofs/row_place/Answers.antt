@@ -1,25 +1,13 @@
 use native.Mathlib.Omega.{arith}
 use Rattle.views.specs.Views.{row_place, row_reach}
-use Rattle.views.proofs.Steps.{third_pos, second_pos, first_lt, second_lt, third_lt, span0_lt, span1_lt, span2_lt, row_le}
+use Rattle.views.proofs.Steps.{first_lt, second_lt, third_lt, span0_lt, span1_lt, span2_lt, row_le}
 use Rattle.views.proofs.row_place.Goals as goal
-
-pub nonzero_div-outer : goal.nonzero_div-outer
-nonzero_div-outer c = third_pos c.args.g c.args.i c.requires.0
-
-pub nonzero_div-outer-2 : goal.nonzero_div-outer-2
-nonzero_div-outer-2 c = second_pos c.args.g c.args.i c.requires.0
 
 pub step_at-p0-requires : goal.step_at-p0-requires
 step_at-p0-requires c = (first_lt c.args.g c.args.i c.requires.0, omega (arith, span0_lt c.args.g c.args.v c.requires.1))
 
-pub nonzero_rem-outer : goal.nonzero_rem-outer
-nonzero_rem-outer c = second_pos c.args.g c.args.i c.requires.0
-
 pub step_at-p1-requires : goal.step_at-p1-requires
 step_at-p1-requires c = (second_lt c.args.g c.args.i c.requires.0, omega (arith, span1_lt c.args.g c.args.v c.requires.1))
-
-pub nonzero_rem-i : goal.nonzero_rem-i
-nonzero_rem-i c = third_pos c.args.g c.args.i c.requires.0
 
 pub step_at-p2-requires : goal.step_at-p2-requires
 step_at-p2-requires c = (third_lt c.args.g c.args.i c.requires.0, omega (arith, span2_lt c.args.g c.args.v c.requires.1))
