@@ -1,5 +1,5 @@
 -- The nodes' sizes as the loops over the records add them.
-use Rattle.std.proofs.Common.{◌≡◌, ℕ, zero, suc, ◌+◌, ◌<◌, ◌≤◌, cond, eqb, List, length, get_or, take, set, ℤ, pos, refl, ap, ◌∙◌, ⊎_elim, not-suc-le-zero, eq-or-lt_of_le, add-one, arith, length-take-le, get_or-set_other, get_or-take, take-suc, get_or-set_same, eqb-true}
+use Rattle.std.proofs.Common.{◌≡◌, ℕ, zero, suc, ◌+◌, ◌<◌, ◌≤◌, cond, eqb, List, length, get_or, take, set, ℤ, pos, refl, ap, ◌∙◌, ⊎_elim, not-suc-le-zero, eq-or-lt_of_le, add-one, arith, get_or-set_other, take-suc, get_or-set_same, eqb-true}
 use mathlib.Core.List.{map-append}
 use lib.ListN.{length-map}
 use Rattle.laws.specs.Lists.{sum}
@@ -23,21 +23,16 @@ use Rattle.inputs.specs.Nodes.{nodes_of, Limited}
 
 -- ---- the records
 
-module _ (records : List Record) (n : ℕ) (long : length records ≡ 256) (few : n ≤ 256) where
-  taken : length (take n records) ≡ n
-  taken = length-take-le n records (omega arith)
-
-  pub nodes_length : length (nodes_of records n) ≡ n
-  nodes_length = length-map (take n records) view_of ∙ taken
+module _ (records : List Record) where
+  pub nodes_length : length (nodes_of records) ≡ length records
+  nodes_length = length-map records view_of
 
   -- the size of record i, whatever stands past the end
-  pub node_size : (d : Record) (i : ℕ) → i < n → count_of (get_or (nodes_of records n) i no_source) ≡ count (shown (get_or records i d).extents)
-  node_size d i l =
-      let view : get_or (nodes_of records n) i no_source ≡ view_of (get_or records i d) = get_or_map view_of (take n records) i no_source d (omega (arith, taken)) ∙ ap view_of (get_or-take n records i d l) in
-      ap count_of view
+  pub node_size : (d : Record) (i : ℕ) → i < length records → count_of (get_or (nodes_of records) i no_source) ≡ count (shown (get_or records i d).extents)
+  node_size d i l = ap count_of (get_or_map view_of records i no_source d l)
 
   -- at most the limit
-  pub node_limited : (d : Record) (i : ℕ) → i < n → Limited (nodes_of records n) n → count (shown (get_or records i d).extents) ≤ 1048576
+  pub node_limited : (d : Record) (i : ℕ) → i < length records → Limited (nodes_of records) (length records) → count (shown (get_or records i d).extents) ≤ 1048576
   node_limited d i l h = rw (← node_size d i l) (h i l)
 
 -- ---- where a node's input begins
@@ -76,25 +71,25 @@ pub record Part (t : List ℤ) (ds : List Derived) (i from n : ℕ) (x : Node) :
   pub within : from + n ≤ length (input_limits t ds)
   pub limits : (k : ℕ) → k < n → get_or (input_limits t ds) (from + k) (between (pos 0) (pos 0)) ≡ between x.low x.high
 
-module _ (t : List ℤ) (records : List Record) (m : ℕ) (long : length records ≡ 256) (few : m ≤ 256) where
+module _ (t : List ℤ) (records : List Record) where
   abbrev nodes : List Derived
-  nodes = nodes_of records m
+  nodes = nodes_of records
 
-  pub input_whole : input_start t (nodes_of records m) m ≡ length (input_limits t (nodes_of records m))
-  input_whole = rw (limits_length t nodes, nodes_length records m long few)
+  pub input_whole : input_start t (nodes_of records) (length records) ≡ length (input_limits t (nodes_of records))
+  input_whole = rw (limits_length t nodes, nodes_length records)
 
   -- what the code reads of node i, and the size of its input
-  pub part_of : (d : Record) (i from n : ℕ) (x : Node) → Limited (nodes_of records m) m → i < m → x ≡ node_at t i
-      → n ≡ cond (eqb x.op 1) (count (shown (get_or records i d).extents)) 0 → from ≡ input_start t (nodes_of records m) i
-      → Part t (nodes_of records m) i from n x
+  pub part_of : (d : Record) (i from n : ℕ) (x : Node) → Limited (nodes_of records) (length records) → i < length records → x ≡ node_at t i
+      → n ≡ cond (eqb x.op 1) (count (shown (get_or records i d).extents)) 0 → from ≡ input_start t (nodes_of records) i
+      → Part t (nodes_of records) i from n x
   part_of d i from n x h l q e s =
-      let size : n ≡ if_param t i (count_of (get_or nodes i no_source)) = e ∙ rw (q, node_size records m long few d i l) in
+      let size : n ≡ if_param t i (count_of (get_or nodes i no_source)) = e ∙ rw (q, node_size records d i l) in
       let next : from + n ≡ input_start t nodes (i + 1) = rw s (start_next t nodes i n size) in
       record {
-        few = rw e (cond_both (λ (k : ℕ). k ≤ 1048576) (eqb x.op 1) _ 0 (λ b. node_limited records m long few d i l h) (λ b. omega arith));
+        few = rw e (cond_both (λ (k : ℕ). k ≤ 1048576) (eqb x.op 1) _ 0 (λ b. node_limited records d i l h) (λ b. omega arith));
         next = next;
-        within = rw (next, ← input_whole) (start_le t nodes (i + 1) m (omega arith));
-        limits = λ k p. rw (s, q) (node_limits_lem t nodes i n k (between (pos 0) (pos 0)) (omega (arith, nodes_length records m long few)) size p);
+        within = rw (next, ← input_whole) (start_le t nodes (i + 1) (length records) (omega arith));
+        limits = λ k p. rw (s, q) (node_limits_lem t nodes i n k (between (pos 0) (pos 0)) (omega (arith, nodes_length records)) size p);
       }
 
 -- ---- the elements of the nodes before node j, all nodes end to end
@@ -120,13 +115,13 @@ module _ (ds : List Derived) where
       (eq-or-lt_of_le (omega arith))
 
 -- a loop over the records: n, what the code counted of record i
-module _ (records : List Record) (m : ℕ) (long : length records ≡ 256) (few : m ≤ 256) (h : Limited (nodes_of records m) m)
-    (d : Record) (i : ℕ) (l : i < m) (n : ℕ) (e : n ≡ capped (count (shown (get_or records i d).extents))) where
+module _ (records : List Record) (h : Limited (nodes_of records) (length records))
+    (d : Record) (i : ℕ) (l : i < length records) (n : ℕ) (e : n ≡ capped (count (shown (get_or records i d).extents))) where
   counted : n ≡ count (shown (get_or records i d).extents)
-  counted = e ∙ capped_within (node_limited records m long few d i l h)
+  counted = e ∙ capped_within (node_limited records d i l h)
 
   pub count_limited : n ≤ 1048576
-  count_limited = rw counted (node_limited records m long few d i l h)
+  count_limited = rw counted (node_limited records d i l h)
 
-  pub count_next : (total : ℕ) → total ≡ total_of (take i (nodes_of records m)) → total + n ≡ total_of (take (i + 1) (nodes_of records m))
-  count_next total s = rw (s, counted, ← node_size records m long few d i l) (total_next (nodes_of records m) i (omega (arith, nodes_length records m long few)))
+  pub count_next : (total : ℕ) → total ≡ total_of (take i (nodes_of records)) → total + n ≡ total_of (take (i + 1) (nodes_of records))
+  count_next total s = rw (s, counted, ← node_size records d i l) (total_next (nodes_of records) i (omega (arith, nodes_length records)))

@@ -1,5 +1,5 @@
 -- The nodes of a plan as the code reads their input: their records, their sizes, and the positions of one of them.
-use Rattle.std.specs.Prelude.{ℕ, ◌+◌, ◌<◌, ◌≤◌, List, map, take, ℤ, pos, slice_index, slice_index_or}
+use Rattle.std.specs.Prelude.{ℕ, ◌+◌, ◌<◌, ◌≤◌, List, map, ℤ, pos, slice_index, slice_index_or}
 use Rattle.plan.specs.declared.Interval.{Interval}
 use Rattle.plan.specs.Answers.{Outcome, in_turn}
 use Rattle.shapes.specs.Rules.{element_limit}
@@ -9,9 +9,9 @@ use Rattle.verifier.specs.Check.{count_of}
 use Rattle.rules.specs.Code.{view_of}
 use Rattle.runner.specs.Inputs.{test_input}
 
--- what is derived of the first `count` nodes
-abbrev pub nodes_of : List Record → ℕ → List Derived
-nodes_of records count = map view_of (take count records)
+-- what is derived of the nodes
+abbrev pub nodes_of : List Record → List Derived
+nodes_of records = map view_of records
 
 -- none of the first `count` nodes has more elements than the limit
 abbrev pub Limited : List Derived → ℕ → Type 0

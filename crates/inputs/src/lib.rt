@@ -1,8 +1,7 @@
 // The input of a run: the numbers and flags of all PARAMs, end to end in node order.
 #![tactic(auto)]
 
-ghost use Rattle.std.specs.Prelude.{◌≡◌, ℕ, ◌+◌, ◌*◌, ◌^◌, ◌<◌, ◌≤◌, true, [], ◌∷◌, length, take, pos, ◌+ℤ◌, ◌≤ℤ◌, if◌then◌else◌, nat_eq, slice_index};
-ghost use Rattle.laws.specs.Lists.{among};
+ghost use Rattle.std.specs.Prelude.{◌≡◌, ℕ, ◌+◌, ◌*◌, ◌^◌, ◌<◌, ◌≤◌, true, length, take, pos, ◌+ℤ◌, ◌≤ℤ◌, if◌then◌else◌, nat_eq, slice_index, IfSome};
 ghost use Rattle.laws.specs.Numbering.{count};
 ghost use Rattle.laws.specs.Store.{store};
 ghost use Rattle.plan.specs.Types.{between};
@@ -12,71 +11,63 @@ ghost use Rattle.plan.specs.Answers.{accepted};
 ghost use Rattle.runner.specs.Inputs.{input_start, input_limits, input_cell, test_input, test_inputs};
 ghost use Rattle.runner.specs.Run.{value_of};
 ghost use Rattle.inputs.specs.Nodes.{nodes_of, Limited, test_part};
-ghost use Rattle.inputs.specs.Scanning.{cell_in, gaps_from, scanned};
+ghost use Rattle.inputs.specs.Scanning.{cell_in, gaps_from, wrong_at, InputFault, Scans};
 
+use plan::{Fault, Operation, Refusal};
 use rules::Record;
-
-// What a scan found: 0 where all positions are good, else the number of the refusal and the position.
-#[derive(Clone, Copy)]
-pub struct Finding {
-    pub number: u64,
-    pub place: u64,
-}
 
 // The elements of a node that are input: all of a PARAM's, none of another's.
 pub fn input_size(op: usize, r: Record) -> usize
     requires { count (shown r.extents) ≤ 1048576 }
     ensures { result ≡ (if nat_eq op 1 then count (shown r.extents) else 0) }
 {
-    if op == 1 {
+    if op == Operation::Param as usize {
         return shaping::count(r.extents);
     }
     0
 }
 
 // The PARAM total: how long the input is.
-pub fn input_total(table: &[i64], records: [Record; 256], count: usize) -> usize
-    requires { (count ≤ 256) × (17 * count ≤ length table.now) × Limited (nodes_of records count) count }
-    ensures { (result ≡ length (input_limits table.now (nodes_of records count))) × (result ≡ input_start table.now (nodes_of records count) count) }
+pub fn input_total(table: &[i64], records: &[Record]) -> usize
+    requires { (length records.now ≤ 256) × (17 * length records.now ≤ length table.now) × Limited (nodes_of records.now) (length records.now) }
+    ensures { (result ≡ length (input_limits table.now (nodes_of records.now))) × (result ≡ input_start table.now (nodes_of records.now) (length records.now)) }
 {
     let mut total = 0;
-    for i in 0..count {
+    for (i, r) in records.iter().enumerate() {
         let x = plan::node_at(table, i);
-        total += input_size(x.op, records[i]);
+        total += input_size(x.op, *r);
     }
     total
 }
 
 // Where each node's elements begin, all nodes end to end.
-pub fn starts(records: [Record; 256], count: usize) -> [usize; 256]
-    requires { (count ≤ 256) × Limited (nodes_of records count) count }
-    ensures { (length result ≡ 256) × ((j : ℕ) → j < count → slice_index result j ≡ total_of (take j (nodes_of records count))) }
+pub fn starts(records: &[Record]) -> [usize; 256]
+    requires { (length records.now ≤ 256) × Limited (nodes_of records.now) (length records.now) }
+    ensures { (length result ≡ 256) × ((j : ℕ) → j < length records.now → slice_index result j ≡ total_of (take j (nodes_of records.now))) }
 {
     let mut starts = [0usize; 256];
     let mut total = 0;
-    for i in 0..count {
+    for (i, r) in records.iter().enumerate() {
         starts[i] = total;
-        let r = records[i];
         total += shaping::count(r.extents);
     }
     starts
 }
 
-// What is wrong at one position: 15 is a flag neither 0 nor 1, 16 a known number outside low..high, 0 neither. The number under a gap is
-// not looked at.
-fn fault(flag: u8, value: i64, low: i64, high: i64) -> u64
-    ensures { ((p : ℕ) → test_input (between low high) value flag p ≡ scanned result p) × (among result (0 ∷ 15 ∷ 16 ∷ []) ≡ true) }
+// What is wrong at one position: a flag neither 0 nor 1, or a known number outside low..high. The number under a gap is not looked at.
+fn fault(flag: u8, value: i64, low: i64, high: i64) -> Option<Fault>
+    ensures { ((p : ℕ) → test_input (between low high) value flag p ≡ wrong_at p result) × IfSome result InputFault }
 {
     if flag != 1 {
         if flag == 0 {
-            return 0;
+            return None;
         }
-        return 15;
+        return Some(Fault::Flag);
     }
     if (low <= value) & (value <= high) {
-        return 0;
+        return None;
     }
-    16
+    Some(Fault::Limits)
 }
 
 // How far a number lies above the least one of 64 bits.
@@ -131,65 +122,57 @@ fn all_good(values: &[i64], flags: &[u8], from: usize, n: usize, low: i64, high:
 }
 
 // The first bad one of n positions of one PARAM, sought one by one.
-fn first_fault(values: &[i64], flags: &[u8], from: usize, n: usize, low: i64, high: i64) -> Finding
+fn first_fault(
+    values: &[i64],
+    flags: &[u8],
+    from: usize,
+    n: usize,
+    low: i64,
+    high: i64,
+) -> Result<(), Refusal>
     requires { (from + n ≤ length values.now) × (from + n ≤ length flags.now) }
-    ensures { (test_part (between low high) values.now flags.now from n ≡ scanned result.number result.place) × (among result.number (0 ∷ 15 ∷ 16 ∷ []) ≡ true) }
+    ensures { Scans (test_part (between low high) values.now flags.now from n) result }
 {
     for i in 0..n {
         let p = from + i;
-        let number = fault(flags[p], values[p], low, high);
-        if number != 0 {
-            return Finding {
-                number: number,
-                place: p as u64,
-            };
+        if let Some(fault) = fault(flags[p], values[p], low, high) {
+            return Err(fault.at(p));
         }
     }
-    Finding {
-        number: 0,
-        place: 0,
-    }
+    Ok(())
 }
 
 // The first bad one of n positions of one PARAM: sought only where not all are good.
-fn scan_param(values: &[i64], flags: &[u8], from: usize, n: usize, low: i64, high: i64) -> Finding
+fn scan_param(
+    values: &[i64],
+    flags: &[u8],
+    from: usize,
+    n: usize,
+    low: i64,
+    high: i64,
+) -> Result<(), Refusal>
     requires { (from + n ≤ length values.now) × (from + n ≤ length flags.now) }
-    ensures { (test_part (between low high) values.now flags.now from n ≡ scanned result.number result.place) × (among result.number (0 ∷ 15 ∷ 16 ∷ []) ≡ true) }
+    ensures { Scans (test_part (between low high) values.now flags.now from n) result }
 {
     if all_good(values, flags, from, n, low, high) {
-        return Finding {
-            number: 0,
-            place: 0,
-        };
+        return Ok(());
     }
     first_fault(values, flags, from, n, low, high)
 }
 
 // The first bad position of the whole input.
-pub fn scan(
-    table: &[i64],
-    records: [Record; 256],
-    count: usize,
-    values: &[i64],
-    flags: &[u8],
-) -> Finding
-    requires { (count ≤ 256) × (17 * count ≤ length table.now) × Limited (nodes_of records count) count × (length values.now ≡ length (input_limits table.now (nodes_of records count))) × (length flags.now ≡ length (input_limits table.now (nodes_of records count))) }
-    ensures { (test_inputs (input_limits table.now (nodes_of records count)) values.now flags.now ≡ scanned result.number result.place) × (among result.number (0 ∷ 15 ∷ 16 ∷ []) ≡ true) }
+pub fn scan(table: &[i64], records: &[Record], values: &[i64], flags: &[u8]) -> Result<(), Refusal>
+    requires { (length records.now ≤ 256) × (17 * length records.now ≤ length table.now) × Limited (nodes_of records.now) (length records.now) × (length values.now ≡ length (input_limits table.now (nodes_of records.now))) × (length flags.now ≡ length (input_limits table.now (nodes_of records.now))) }
+    ensures { Scans (test_inputs (input_limits table.now (nodes_of records.now)) values.now flags.now) result }
 {
     let mut from = 0;
-    for i in 0..count {
+    for (i, r) in records.iter().enumerate() {
         let x = plan::node_at(table, i);
-        let n = input_size(x.op, records[i]);
-        let found = scan_param(values, flags, from, n, x.low, x.high);
-        if found.number != 0 {
-            return found;
-        }
+        let n = input_size(x.op, *r);
+        scan_param(values, flags, from, n, x.low, x.high)?;
         from += n;
     }
-    Finding {
-        number: 0,
-        place: 0,
-    }
+    Ok(())
 }
 
 // A number of the input as it is written: 0 under a gap.

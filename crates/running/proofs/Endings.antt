@@ -2,41 +2,41 @@
 use Prim.Native.Nat.{ℕ, ◌+◌, ◌-◌, ◌<◌, ◌≤◌}
 use mathlib.Core.Path.{◌≡◌, refl, ap, sym, ◌∙◌}
 use mathlib.Core.List.{List}
+use Rattle.std.specs.Prelude.{Ok, Err}
 use native.Mathlib.Omega.{arith}
 use borrow.Author.Tests.{eq-eqb, ne_eqb, le-leb, lt-leb}
 use lib.IntN.{ℤ}
 use lib.ListN.{length, get_or, take}
+use lib.Seq.{length-take-le}
 use Rattle.laws.specs.Lists.{last_or}
 use Rattle.laws.proofs.Lists.{last_is, take_whole}
-use Rattle.plan.specs.declared.Answer.{Answer}
-use Rattle.plan.specs.Answers.{Outcome, accepted, refuse}
+use Rattle.plan.specs.declared.faults.Refusal.{Refusal as Refused}
+use Rattle.plan.specs.Answers.{Outcome, Refusal, accepted, refused, refuse}
+use Rattle.plan.specs.Coded.{refusal_of}
+use Rattle.rules.specs.declared.Record.{Record}
 use Rattle.verifier.specs.declared.Derivation.{Derivation}
 use Rattle.rules.specs.Rules.{Derived, no_source}
 use Rattle.verifier.specs.Check.{count_of, total_of, verdict}
 use Rattle.verifier.specs.Verdicts.{Accepts}
 use Rattle.cells.specs.Cells.{Cell, Field}
 use Rattle.runner.specs.Inputs.{input_limits, input_cells, test_inputs}
-use Rattle.runner.specs.Run.{no_field, node_field, fields_to, fields_of, run_accepted, run, run_answer, values_after, flags_after, value_of, flag_of, gap_count}
+use Rattle.runner.specs.Run.{no_field, node_field, fields_to, fields_of, run_accepted, run, value_of, flag_of, gap_count}
 use Rattle.runner.proofs.Fields.{fields_length, field_at}
-use Rattle.inputs.specs.Scanning.{gaps_from, scanned}
-use Rattle.running.specs.Running.{laid_to, Checked}
+use Rattle.inputs.specs.Scanning.{gaps_from}
+use Rattle.running.specs.Running.{laid_to, Checked, Runs}
 use Rattle.running.proofs.EndToEnd.{total_whole, cells_at, cells_count, laid_length, laid_read, laid_all}
 use Rattle.running.proofs.Gaps.{gaps_counted}
 
--- what a run answers and leaves in both buffers
-abbrev pub Ended : Outcome (List Field) → Answer → List ℤ → List ℕ → List ℤ → List ℕ → Type 0
-Ended o a vs fs vs' fs' = (a ≡ run_answer o) × (vs' ≡ values_after o vs) × (fs' ≡ flags_after o fs)
-
 -- a refusal writes nothing
-pub refusal_ends : {o : Outcome (List Field)} {number place : ℕ} {a : Answer} (vs : List ℤ) (fs : List ℕ) → o ≡ refuse number place → a ≡ record { number = number; place = place; count = 0 } → Ended o a vs fs vs fs
-refusal_ends vs fs e h = (rw e h, rw e refl, rw e refl)
+pub refusal_ends : {o : Outcome (List Field)} {e : Refused} (vs : List ℤ) (fs : List ℕ) → o ≡ refused (refusal_of e) → Runs o (Err e) vs fs vs fs
+refusal_ends vs fs e = record { answer = rw e refl; values = rw e refl; flags = rw e refl }
 
 -- 1 to 12
 module _ (t : List ℤ) where
-  pub check_accepts : {d : Derivation} → Accepts (verdict t) 256 d → Checked t d.records d.count
-  check_accepts a = record { few = a.few; long = a.long; accepts = a.is_check }
+  pub check_accepts : {d : Derivation} {nodes : List Record} → Accepts (verdict t) 256 d → nodes ≡ take d.count d.records → Checked t nodes
+  check_accepts {d} a e = rw e (record { few = omega (arith, a.few, length-take-le d.count d.records (omega (arith, a.few, a.long))); accepts = a.is_check })
 
-pub breaks : (t values : List ℤ) (flags : List ℕ) (valueRoom flagRoom : ℕ) {number place : ℕ} → verdict t ≡ refuse number place → run t values flags valueRoom flagRoom ≡ refuse number place
+pub breaks : (t values : List ℤ) (flags : List ℕ) (valueRoom flagRoom : ℕ) {r : Refusal} → verdict t ≡ refused r → run t values flags valueRoom flagRoom ≡ refused r
 unfolding run
 breaks t values flags valueRoom flagRoom v = rw v refl
 
@@ -61,13 +61,9 @@ module _ (t : List ℤ) (ds : List Derived) (values : List ℤ) (flags : List �
     short_flags p h = rw (v, eq-eqb _ _ l, eq-eqb _ _ m, le-leb (total_of ds) valueRoom p, lt-leb (total_of ds) flagRoom h) refl
 
     -- 15 and 16
-    pub bad_input : total_of ds ≤ valueRoom → total_of ds ≤ flagRoom → (number place : ℕ) → test_inputs (input_limits t ds) values flags ≡ scanned number place → (number ≡ 0 → ⊥)
-        → run t values flags valueRoom flagRoom ≡ refuse number place
+    pub bad_input : total_of ds ≤ valueRoom → total_of ds ≤ flagRoom → {r : Refusal} → test_inputs (input_limits t ds) values flags ≡ refused r → run t values flags valueRoom flagRoom ≡ refused r
     unfolding run run_accepted
-    bad_input p q number place e z = rw (v, eq-eqb _ _ l, eq-eqb _ _ m, le-leb _ _ p, le-leb _ _ q, e, ne_eqb number 0 z) refl
-
-pub good_input : {o : Outcome Unit} (number place : ℕ) → o ≡ scanned number place → number ≡ 0 → o ≡ accepted tt
-good_input number place e z = e ∙ rw (eq-eqb number 0 z) refl
+    bad_input p q e = rw (v, eq-eqb _ _ l, eq-eqb _ _ m, le-leb _ _ p, le-leb _ _ q, e) refl
 
 -- ---- a run that completes
 
@@ -94,8 +90,12 @@ module _ (t : List ℤ) (ds : List Derived) (values : List ℤ) (flags : List �
     pub output_room : {start : ℕ} → start ≡ total_of (take (n - 1) ds) → start + count_of (get_or ds (n - 1) no_source) ≤ length fs'
     output_room s = rw (s, laid_length t ds input flag_of fs n flags-laid) (omega (arith, total_whole ds (n - 1) (omega arith)))
 
-    pub completes : {o : Outcome (List Field)} {a : Answer} {gaps start : ℕ} → o ≡ accepted (fields_of t ds values flags) → start ≡ total_of (take (n - 1) ds)
-        → gaps ≡ gaps_from fs' start (count_of (get_or ds (n - 1) no_source)) → a ≡ record { number = 0; place = 0; count = gaps } → Ended o a vs fs vs' fs'
-    completes {gaps = gaps} e s g h =
+    pub completes : {o : Outcome (List Field)} {gaps start : ℕ} → o ≡ accepted (fields_of t ds values flags) → start ≡ total_of (take (n - 1) ds)
+        → gaps ≡ gaps_from fs' start (count_of (get_or ds (n - 1) no_source)) → Runs o (Ok gaps) vs fs vs' fs'
+    completes {gaps = gaps} e s g =
         let counted : gaps ≡ gap_count (cells_at t ds input (n - 1)) = rw (g, s) output_gaps in
-        (h ∙ rw (e, output, output_cells, counted) refl, laid_all t ds input value_of vs n as_many value_room values-laid ∙ rw e refl, laid_all t ds input flag_of fs n as_many flag_room flags-laid ∙ rw e refl)
+        record {
+          answer = rw (e, output, output_cells, counted) refl;
+          values = laid_all t ds input value_of vs n as_many value_room values-laid ∙ rw e refl;
+          flags = laid_all t ds input flag_of fs n as_many flag_room flags-laid ∙ rw e refl;
+        }

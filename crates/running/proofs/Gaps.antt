@@ -20,10 +20,10 @@ use Rattle.inputs.specs.Scanning.{gaps_from}
 use Rattle.inputs.proofs.Sizes.{node_size}
 
 -- the count of a record within the limit, as the code counts it
-pub last_count : (records : List Record) (n : ℕ) (long : length records ≡ 256) (few : n ≤ 256) (d : Record) (i : ℕ) {m : ℕ} → i < n → count_of (get_or (nodes_of records n) i no_source) ≤ 1048576
-    → m ≡ capped (count (shown (get_or records i d).extents)) → m ≡ count_of (get_or (nodes_of records n) i no_source)
-last_count records n long few d i l h e =
-    let size = node_size records n long few d i l in
+pub last_count : (records : List Record) (d : Record) (i : ℕ) {m : ℕ} → i < length records → count_of (get_or (nodes_of records) i no_source) ≤ 1048576
+    → m ≡ capped (count (shown (get_or records i d).extents)) → m ≡ count_of (get_or (nodes_of records) i no_source)
+last_count records d i l h e =
+    let size = node_size records d i l in
     e ∙ rw (← size) (capped_within h)
 
 -- counted from the first on

@@ -32,43 +32,43 @@ use Rattle.running.proofs.EndToEnd.{total_more, laid_more, laid_read, laid_lengt
 use Rattle.running.proofs.Plans.{as_many, limited, input_inside, all_small}
 use Rattle.running.proofs.Turns.{sources_earlier_lem, own_room}
 
-module _ (t : List ℤ) (records : List Record) (n : ℕ) (checked : Checked t records n) (i : ℕ) (l : i < n) where
+module _ (t : List ℤ) (records : List Record) (checked : Checked t records) (i : ℕ) (l : i < length records) where
   abbrev nodes : List Derived
-  nodes = nodes_of records n
+  nodes = nodes_of records
 
   abbrev op : ℕ
   op = (node_at t i).op
 
   -- the input of the next node
-  pub taken_few : {m : ℕ} → m ≡ if_param t i (count_of (get_or (nodes_of records n) i no_source)) → m ≤ 1048576
-  taken_few e = rw e (cond_both (λ (k : ℕ). k ≤ 1048576) (eqb op PARAM) _ 0 (λ b. limited t records n checked i l) (λ b. omega arith))
+  pub taken_few : {m : ℕ} → m ≡ if_param t i (count_of (get_or (nodes_of records) i no_source)) → m ≤ 1048576
+  taken_few e = rw e (cond_both (λ (k : ℕ). k ≤ 1048576) (eqb op PARAM) _ 0 (λ b. limited t records checked i l) (λ b. omega arith))
 
-  pub taken_next : {m from : ℕ} → m ≡ if_param t i (count_of (get_or (nodes_of records n) i no_source)) → from ≡ input_start t (nodes_of records n) i → from + m ≡ input_start t (nodes_of records n) (i + 1)
+  pub taken_next : {m from : ℕ} → m ≡ if_param t i (count_of (get_or (nodes_of records) i no_source)) → from ≡ input_start t (nodes_of records) i → from + m ≡ input_start t (nodes_of records) (i + 1)
   taken_next {m} e s = rw s (start_next t nodes i m e)
 
-  module _ (values : List ℤ) (flags : List ℕ) (fed : Fed t (nodes_of records n) values flags) (vs₀ : List ℤ) (fs₀ : List ℕ) (vs : List ℤ) (fs : List ℕ) (starts : List ℕ)
-      (places : Places (nodes_of records n) starts vs₀ fs₀) (laid-values : vs ≡ laid_to value_of t (nodes_of records n) (input_cells values flags) i vs₀) (laid-flags : fs ≡ laid_to flag_of t (nodes_of records n) (input_cells values flags) i fs₀)
-      {from : ℕ} (begins : from ≡ input_start t (nodes_of records n) i) where
+  module _ (values : List ℤ) (flags : List ℕ) (fed : Fed t (nodes_of records) values flags) (vs₀ : List ℤ) (fs₀ : List ℕ) (vs : List ℤ) (fs : List ℕ) (starts : List ℕ)
+      (places : Places (nodes_of records) starts vs₀ fs₀) (laid-values : vs ≡ laid_to value_of t (nodes_of records) (input_cells values flags) i vs₀) (laid-flags : fs ≡ laid_to flag_of t (nodes_of records) (input_cells values flags) i fs₀)
+      {from : ℕ} (begins : from ≡ input_start t (nodes_of records) i) where
     abbrev input : List Cell
     input = input_cells values flags
 
     abbrev operands : Operands
-    operands = operands_of t (nodes_of records n) (input_cells values flags) i (fields_to t (nodes_of records n) (input_cells values flags) i)
+    operands = operands_of t (nodes_of records) (input_cells values flags) i (fields_to t (nodes_of records) (input_cells values flags) i)
 
     -- the numbers before its place, and those of an earlier node
-    small_before : (p : ℕ) → p < total_of (take i (nodes_of records n)) → Small (get_or vs p (pos 0))
+    small_before : (p : ℕ) → p < total_of (take i (nodes_of records)) → Small (get_or vs p (pos 0))
     small_before p h =
-        let inside : 0 + total_of (take i nodes) ≤ length vs₀ = omega (arith, own_room t records n checked i l, places.value_room) in
+        let inside : 0 + total_of (take i nodes) ≤ length vs₀ = omega (arith, own_room t records checked i l, places.value_room) in
         let here = store_hit vs₀ vs 0 (total_of (take i nodes)) _ p (pos 0) laid-values h inside in
-        subst Small (sym (rw zero-add at here)) (all_small t records n checked values flags fed i (omega arith) p)
+        subst Small (sym (rw zero-add at here)) (all_small t records checked values flags fed i (omega arith) p)
 
-    small_node : (j : ℕ) → j < i → SmallNode vs (nodes_of records n) j
-    small_node j h p low high = small_before p (omega (arith, total_more nodes j i h (omega (arith, as_many t records n checked))))
+    small_node : (j : ℕ) → j < i → SmallNode vs (nodes_of records) j
+    small_node j h p low high = small_before p (omega (arith, total_more nodes j i h (omega (arith, as_many t records checked))))
 
     -- it can be run
-    pub turning : Turning t records n starts i values flags from vs fs
+    pub turning : Turning t records starts i values flags from vs fs
     turning =
-        let earlier = sources_earlier_lem t records n checked i l in
+        let earlier = sources_earlier_lem t records checked i l in
         record {
           checked = checked;
           inside = l;
@@ -80,17 +80,17 @@ module _ (t : List ℤ) (records : List Record) (n : ℕ) (checked : Checked t r
               };
           small_first = λ u. small_node (node_at t i).source1.0 (earlier.0 u);
           small_second = λ u. small_node (node_at t i).source2.0 (earlier.1 u);
-          values = λ p. rw (begins, fed.all_values) (input_inside t records n checked values flags fed i l p);
-          flags = λ p. rw (begins, fed.all_flags) (input_inside t records n checked values flags fed i l p);
+          values = λ p. rw (begins, fed.all_values) (input_inside t records checked values flags fed i l p);
+          flags = λ p. rw (begins, fed.all_flags) (input_inside t records checked values flags fed i l p);
         }
 
     -- its sources stand in the buffers, and its input is that of a PARAM
     source_stands : (k : ℕ) (s : NodeNumber) → (readsSource (node_at t i) k ≡ true → s.0 < i) → readsSource (node_at t i) k ≡ true
-        → Source vs fs (node_start (nodes_of records n) s.0) (node_extents (nodes_of records n) s.0) (field_of (fields_to t (nodes_of records n) (input_cells values flags) i) (node_at t i) k s)
+        → Source vs fs (node_start (nodes_of records) s.0) (node_extents (nodes_of records) s.0) (field_of (fields_to t (nodes_of records) (input_cells values flags) i) (node_at t i) k s)
     unfolding field_of node_field
     source_stands k s earlier u =
-        let few : i ≤ length nodes = omega (arith, as_many t records n checked) in
-        let own = own_room t records n checked i l in
+        let few : i ≤ length nodes = omega (arith, as_many t records checked) in
+        let own = own_room t records checked i l in
         rw (u, field_at t nodes input i s.0 (earlier u))
         (record {
           shape = refl;
@@ -101,16 +101,16 @@ module _ (t : List ℤ) (records : List Record) (n : ℕ) (checked : Checked t r
               };
         })
 
-    given : (node_at t i).op ≡ PARAM → Given values flags (input_start t (nodes_of records n) i) (node_extents (nodes_of records n) i) (drop (input_start t (nodes_of records n) i) (input_cells values flags))
+    given : (node_at t i).op ≡ PARAM → Given values flags (input_start t (nodes_of records) i) (node_extents (nodes_of records) i) (drop (input_start t (nodes_of records) i) (input_cells values flags))
     unfolding input_cells
     given q e h =
-        let inside : input_start t nodes i + e < length values = omega (arith, fed.all_values, input_inside t records n checked values flags fed i l q) in
+        let inside : input_start t nodes i + e < length values = omega (arith, fed.all_values, input_inside t records checked values flags fed i l q) in
         get_or-drop (input_start t nodes i) (input_cells values flags) e gap ∙ get_or_tab (length values) (λ (p : ℕ). input_cell (get_or values p (pos 0)) (get_or flags p 0)) (input_start t nodes i + e) gap inside
 
-    reads : NodeReads t (nodes_of records n) i values flags from vs fs operands
+    reads : NodeReads t (nodes_of records) i values flags from vs fs operands
     unfolding operands_of
     reads =
-        let earlier = sources_earlier_lem t records n checked i l in
+        let earlier = sources_earlier_lem t records checked i l in
         rw begins
         (record {
           first = source_stands 1 (node_at t i).source1 earlier.0;
@@ -121,11 +121,11 @@ module _ (t : List ℤ) (records : List Record) (n : ℕ) (checked : Checked t r
 
     -- what it leaves
     pub one_more : {vs' : List ℤ} {fs' : List ℕ}
-        → ((o : Operands) → NodeReads t (nodes_of records n) i values flags from vs fs o → Evaluates (node_at t i) (node_extents (nodes_of records n) i) o vs fs (node_start (nodes_of records n) i) vs' fs')
-        → (vs' ≡ laid_to value_of t (nodes_of records n) (input_cells values flags) (i + 1) vs₀) × (fs' ≡ laid_to flag_of t (nodes_of records n) (input_cells values flags) (i + 1) fs₀)
+        → ((o : Operands) → NodeReads t (nodes_of records) i values flags from vs fs o → Evaluates (node_at t i) (node_extents (nodes_of records) i) o vs fs (node_start (nodes_of records) i) vs' fs')
+        → (vs' ≡ laid_to value_of t (nodes_of records) (input_cells values flags) (i + 1) vs₀) × (fs' ≡ laid_to flag_of t (nodes_of records) (input_cells values flags) (i + 1) fs₀)
     one_more leaves =
         let done = leaves operands reads in
-        let few : i < length nodes = omega (arith, as_many t records n checked) in (
+        let few : i < length nodes = omega (arith, as_many t records checked) in (
           laid_more t nodes input value_of vs₀ vs i few laid-values done.values,
           laid_more t nodes input flag_of fs₀ fs i few laid-flags done.flags,
         )

@@ -53,53 +53,53 @@ bounded_small dtype b (known z) e w = range_small dtype z (wider (range_of dtype
 
 -- ---- the nodes
 
-module _ (t : List ℤ) (records : List Record) (n : ℕ) (checked : Checked t records n) where
+module _ (t : List ℤ) (records : List Record) (checked : Checked t records) where
   abbrev nodes : List Derived
-  nodes = nodes_of records n
+  nodes = nodes_of records
 
-  plan : PlanMeets t (nodes_of records n)
+  plan : PlanMeets t (nodes_of records)
   plan = accepted_meets t nodes checked.accepts
 
-  pub as_many : length (nodes_of records n) ≡ n
-  as_many = nodes_length records n checked.long checked.few
+  pub as_many : length (nodes_of records) ≡ length records
+  as_many = nodes_length records
 
-  counted : node_count t ≡ n
+  counted : node_count t ≡ length records
   counted = sym plan.nodes.as_many ∙ as_many
 
-  pub nodes_meet : NodesMeet t n (nodes_of records n)
+  pub nodes_meet : NodesMeet t (length records) (nodes_of records)
   nodes_meet = subst (λ (k : ℕ). NodesMeet t k nodes) counted plan.nodes
 
-  pub table_long : 17 * n ≤ length t
+  pub table_long : 17 * length records ≤ length t
   unfolding node_count
-  table_long = let c : length t / 17 ≡ n = counted in rw (← c) (right_length t plan.length_right).0
+  table_long = let c : length t / 17 ≡ length records = counted in rw (← c) (right_length t plan.length_right).0
 
-  pub some_node : 0 < n
+  pub some_node : 0 < length records
   some_node = omega (arith, counted, (few_nodes t plan.length_right).0)
 
-  pub limited : Limited (nodes_of records n) n
+  pub limited : Limited (nodes_of records) (length records)
   limited i l = few_elements t i (take i nodes) (get_or nodes i no_source) (nodes_meet.each i l)
 
   -- ---- the input
 
-  module _ (values : List ℤ) (flags : List ℕ) (fed : Fed t (nodes_of records n) values flags) where
+  module _ (values : List ℤ) (flags : List ℕ) (fed : Fed t (nodes_of records) values flags) where
     -- the input of PARAM i lies before the end
-    pub input_inside : (i : ℕ) → i < n → (node_at t i).op ≡ PARAM → input_start t (nodes_of records n) i + count_of (get_or (nodes_of records n) i no_source) ≤ length (input_limits t (nodes_of records n))
+    pub input_inside : (i : ℕ) → i < length records → (node_at t i).op ≡ PARAM → input_start t (nodes_of records) i + count_of (get_or (nodes_of records) i no_source) ≤ length (input_limits t (nodes_of records))
     input_inside i l q = rw (limits_length t nodes) (start_more t nodes i (length nodes) (omega (arith, as_many)) q)
 
-    in_limits : sound.Fed t (nodes_of records n) n (input_cells values flags)
+    in_limits : sound.Fed t (nodes_of records) (length records) (input_cells values flags)
     in_limits i e l q h =
         let inside : input_start t nodes i + e < length (input_limits t nodes) = omega (arith, input_inside i l q) in
         let passes = tests_passed (input_limits t nodes) values flags fed.passed (input_start t nodes i + e) inside in
         let own = limits_at_lem t nodes i e (between (pos 0) (pos 0)) (omega (arith, as_many)) q h in
         cell_bounded (declared t i) values flags (input_start t nodes i + e) (rw own at passes.in_limits)
 
-    cell_small : (j e : ℕ) → j < n → Small (value_of (get_or (cells_at t (nodes_of records n) (input_cells values flags) j) e gap))
+    cell_small : (j e : ℕ) → j < length records → Small (value_of (get_or (cells_at t (nodes_of records) (input_cells values flags) j) e gap))
     cell_small j e l =
         let d = get_or nodes j no_source in
-        let b = sound.all_sound t n nodes nodes_meet (input_cells values flags) in_limits j l (element e) in
-        bounded_small d.dtype d.bounds (get_or (cells_at t nodes (input_cells values flags) j) e gap) (in_type t j (take j nodes) d (nodes_meet.each j l)) (rw (field_at t nodes (input_cells values flags) n j l) at b)
+        let b = sound.all_sound t (length records) nodes nodes_meet (input_cells values flags) in_limits j l (element e) in
+        bounded_small d.dtype d.bounds (get_or (cells_at t nodes (input_cells values flags) j) e gap) (in_type t j (take j nodes) d (nodes_meet.each j l)) (rw (field_at t nodes (input_cells values flags) (length records) j l) at b)
 
     -- every number of the first i nodes is of 32 bits
-    pub all_small : (i : ℕ) → i ≤ n → (p : ℕ) → Small (value_of (get_or (all_cells (fields_to t (nodes_of records n) (input_cells values flags) i)) p gap))
+    pub all_small : (i : ℕ) → i ≤ length records → (p : ℕ) → Small (value_of (get_or (all_cells (fields_to t (nodes_of records) (input_cells values flags) i)) p gap))
     all_small i l p =
         all_have t nodes (input_cells values flags) (λ (c : Cell). Small (value_of c)) small_zero i (omega (arith, as_many)) (λ j e k. cell_small j e (omega arith)) p

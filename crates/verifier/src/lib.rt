@@ -40,7 +40,7 @@ impl Derivation {
 // Where the record of a source stands; 0 where it is no earlier node.
 pub fn source_place(s: NodeNumber, i: usize) -> usize
     requires { i < 256 }
-    ensures { (result < 256) × (s.0 < i → result ≡ s.0) }
+    ensures { (result < 256) × (s.0 < i → result ≡ s.0) × (result ≤ i) }
 {
     let n = s.0;
     if n < i { n } else { 0 }

@@ -5,7 +5,7 @@ use Rattle.running.proofs.Turns.{start_is, extents_are, taken_is, three_picked, 
 use Rattle.running.proofs.run_node.Goals as goal
 
 pub node_at-x-requires : goal.node_at-x-requires
-node_at-x-requires c = omega (arith, c.requires.inside, table_long c.args.table.now c.args.records c.args.count c.requires.checked)
+node_at-x-requires c = omega (arith, c.requires.inside, table_long c.args.table.now c.args.records.now c.requires.checked)
 
 pub offset_bounds-records-i : goal.offset_bounds-records-i
 offset_bounds-records-i c = omega (arith, c.requires.inside, c.requires.checked.few)
@@ -19,6 +19,15 @@ offset_bounds-starts-i c = omega (arith, c.requires.inside, c.requires.checked.f
 pub bounds-starts-i : goal.bounds-starts-i
 bounds-starts-i c = omega (arith, c.requires.inside, c.requires.checked.few)
 
+pub bounds-records-place1 : goal.bounds-records-place1
+bounds-records-place1 c = omega (arith, c.source_place-place1.ensures.2, c.requires.inside)
+
+pub bounds-records-place2 : goal.bounds-records-place2
+bounds-records-place2 c = omega (arith, c.source_place-place2.ensures.2, c.requires.inside)
+
+pub bounds-records-place3 : goal.bounds-records-place3
+bounds-records-place3 c = omega (arith, c.source_place-place3.ensures.2, c.requires.inside)
+
 pub eval_node-requires : goal.eval_node-requires
 eval_node-requires c =
     let turn = c.requires in
@@ -28,7 +37,7 @@ eval_node-requires c =
 pub input_size-requires : goal.input_size-requires
 input_size-requires c =
     let a = c.args in
-    node_limited a.records a.count c.requires.checked.long c.requires.checked.few _ a.i c.requires.inside (limited a.table.now a.records a.count c.requires.checked)
+    node_limited a.records.now _ a.i c.requires.inside (limited a.table.now a.records.now c.requires.checked)
 
 pub returns : goal.returns
 returns c =

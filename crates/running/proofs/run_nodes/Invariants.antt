@@ -1,4 +1,4 @@
-use Prim.Native.Nat.{◌-◌, ◌*◌, ◌≤◌}
+use Prim.Native.Nat.{◌*◌, ◌≤◌}
 use mathlib.Core.Path.{◌≡◌}
 use Rattle.runner.specs.Inputs.{input_start, input_cells}
 use Rattle.runner.specs.Run.{value_of, flag_of}
@@ -7,11 +7,7 @@ use Rattle.running.specs.Running.{laid_to}
 use Rattle.running.proofs.run_nodes.Given as goal
 
 abbrev pub invariant-loop-i : goal.invariant-loop-i
-invariant-loop-i l = (l.i ≤ l.count)
-    × (l.from ≤ l.i * 1048576)
-    × (l.from ≡ input_start l.table (nodes_of l.records l.count) l.i)
-    × (l.values ≡ laid_to value_of l.table (nodes_of l.records l.count) (input_cells l.given l.known) l.i l.initial.values)
-    × (l.flags ≡ laid_to flag_of l.table (nodes_of l.records l.count) (input_cells l.given l.known) l.i l.initial.flags)
-
-abbrev pub decreases-loop-i : goal.decreases-loop-i
-decreases-loop-i l = l.count - l.i
+invariant-loop-i l = (l.from ≤ l.i * 1048576)
+    × (l.from ≡ input_start l.table (nodes_of l.records) l.i)
+    × (l.values ≡ laid_to value_of l.table (nodes_of l.records) (input_cells l.given l.known) l.i l.initial.values)
+    × (l.flags ≡ laid_to flag_of l.table (nodes_of l.records) (input_cells l.given l.known) l.i l.initial.flags)
