@@ -1,5 +1,5 @@
-use Rattle.std.proofs.Common.{ℕ, ◌<◌, subst}
-use Rattle.following.proofs.Tracing.{own_node, own_words, stops, earlier, source_words, asked, nowhere, source_element_there, passes}
+use Rattle.std.proofs.Common.{ℕ, ◌<◌, length, subst, rules}
+use Rattle.following.proofs.Tracing.{own_node, stops, earlier, source_node, asked, nowhere, source_element_there, passes}
 use Rattle.following.proofs.+follow.Goals as goal
 
 pub node_at-x-requires : goal.node_at-x-requires
@@ -9,28 +9,33 @@ pub returns-then-not-is_followed : goal.returns-then-not-is_followed
 returns-then-not-is_followed t c =
     stops _ _ c.args.n c.args.e c.requires c.node_at-x.ensures (rw c.is_followed.ensures at c.if-not-is_followed.true)
 
-pub shape_at-s-requires : goal.shape_at-s-requires
-shape_at-s-requires t c =
-    source_words _ _ c.args.n c.args.e c.requires c.node_at-x.ensures (rw c.is_followed.ensures at c.if-not-is_followed.false)
+pub bounds-records-source : goal.bounds-records-source
+bounds-records-source t c =
+    source_node _ _ c.args.n c.args.e c.requires c.node_at-x.ensures (rw c.is_followed.ensures at c.if-not-is_followed.false)
 
-pub shape_at-r-requires : goal.shape_at-r-requires
-shape_at-r-requires t c = own_words _ _ c.args.n c.args.e c.requires
+pub offset_bounds-records-source : goal.offset_bounds-records-source
+offset_bounds-records-source t c =
+    let l : c.node_at-x.result.source1.0 < length c.args.records.now = source_node _ _ c.args.n c.args.e c.requires c.node_at-x.ensures (rw c.is_followed.ensures at c.if-not-is_followed.false) in
+    search rules
+
+pub bounds-records-at : goal.bounds-records-at
+bounds-records-at t c = c.requires.node_there
 
 pub source_element-origin-requires : goal.source_element-origin-requires
 source_element-origin-requires t c =
-    asked _ _ c.args.n c.args.e c.requires c.node_at-x.ensures (rw c.is_followed.ensures at c.if-not-is_followed.false) c.shape_at-s.ensures c.shape_at-r.ensures
+    asked _ _ c.args.n c.args.e c.requires c.node_at-x.ensures (rw c.is_followed.ensures at c.if-not-is_followed.false) _ _
 
 pub follow-requires : goal.follow-requires
 follow-requires t c =
     let f = rw c.is_followed.ensures at c.if-not-is_followed.false in (
       subst (λ (m : ℕ). c.node_at-x.result.source1.0 < m) c.decreases (earlier _ _ c.args.n c.args.e c.requires c.node_at-x.ensures f),
-      source_element_there _ _ c.args.n c.args.e c.requires c.node_at-x.ensures f c.shape_at-s.ensures c.shape_at-r.ensures c.source_element-origin.result c.source_element-origin.ensures c.in-Element.o c.in-Element.is,
+      source_element_there _ _ c.args.n c.args.e c.requires c.node_at-x.ensures f _ _ c.source_element-origin.result c.source_element-origin.ensures c.in-Some.o c.in-Some.is,
     )
 
-pub returns-in-Nothing : goal.returns-in-Nothing
-returns-in-Nothing t c =
-    nowhere _ _ c.args.n c.args.e c.requires c.node_at-x.ensures (rw c.is_followed.ensures at c.if-not-is_followed.false) c.shape_at-s.ensures c.shape_at-r.ensures c.source_element-origin.result c.source_element-origin.ensures c.in-Nothing.is
+pub returns-in-None : goal.returns-in-None
+returns-in-None t c =
+    nowhere _ _ c.args.n c.args.e c.requires c.node_at-x.ensures (rw c.is_followed.ensures at c.if-not-is_followed.false) _ _ c.source_element-origin.result c.source_element-origin.ensures c.in-None.is
 
-pub returns-in-Element : goal.returns-in-Element
-returns-in-Element t c =
-    passes _ _ c.args.n c.args.e c.requires c.node_at-x.ensures (rw c.is_followed.ensures at c.if-not-is_followed.false) c.shape_at-s.ensures c.shape_at-r.ensures c.source_element-origin.result c.source_element-origin.ensures c.in-Element.o c.in-Element.is c.follow.ensures
+pub returns-in-Some : goal.returns-in-Some
+returns-in-Some t c =
+    passes _ _ c.args.n c.args.e c.requires c.node_at-x.ensures (rw c.is_followed.ensures at c.if-not-is_followed.false) _ _ c.source_element-origin.result c.source_element-origin.ensures c.in-Some.o c.in-Some.is c.follow.ensures
