@@ -68,7 +68,7 @@ pub extern "C" fn lup_run(
 pub extern "C" fn lup_lookup(table: &[i64], node: u64, element: u64) -> lookup::Reply
     ensures { result ≡ reply_of (lookup table.now (record { 0 = node }) (record { 0 = element })) }
 {
-    following::reply(following::lookup(
+    lookup::Reply::from(following::lookup(
         table,
         plan::NodeNumber(node as usize),
         plan::ElementNumber(element as usize),

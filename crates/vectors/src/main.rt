@@ -246,7 +246,7 @@ fn lookup_case(input: &[u8], answer: &[u8]) -> Result<bool, Malformed> {
         NodeNumber(node as usize),
         ElementNumber(element as usize),
     );
-    let reply = following::reply(looked);
+    let reply = lookup::Reply::from(looked);
     let got = [
         reply.number,
         reply.place,
