@@ -3,10 +3,10 @@
 
 ghost use Rattle.std.specs.Prelude.{◌≡◌, true, ◌<◌, ◌≤◌, ℤ, pos, ◌*ℤ◌};
 ghost use Rattle.std.specs.Int.Signed.{mag};
-ghost use Rattle.laws.specs.Integers.{min_z, max_z, min4, max4, floor_div, floor_mod};
+ghost use Rattle.laws.specs.Integers.{min_z, max_z, floor_div, floor_mod};
 ghost use Rattle.laws.proofs.Machine.{Small};
 ghost use Rattle.plan.specs.Types.{between, holds, contains, range_of};
-ghost use Rattle.bounds.specs.Rules.{add_bounds, mul_bounds, max_bounds, min_bounds, idiv_bounds, mod_bounds, where_bounds, cmplt_bounds, cmpne_bounds, reduce_bounds, stack_bounds};
+ghost use Rattle.bounds.specs.Rules.{corners, add_bounds, mul_bounds, max_bounds, min_bounds, idiv_bounds, mod_bounds, where_bounds, cmplt_bounds, cmpne_bounds, reduce_bounds, stack_bounds};
 ghost use Rattle.bounds.specs.Narrow.{wide_of, Held, Narrow, Result};
 
 use plan::{Instruction, Interval, Operation};
@@ -30,20 +30,6 @@ pub fn greatest(a: i64, b: i64) -> i64
     ensures { result ≡ max_z a b }
 {
     if a < b { b } else { a }
-}
-
-// The smallest of four.
-fn least4(a: i64, b: i64, c: i64, d: i64) -> i64
-    ensures { result ≡ min4 a b c d }
-{
-    least(least(a, b), least(c, d))
-}
-
-// The largest of four.
-fn greatest4(a: i64, b: i64, c: i64, d: i64) -> i64
-    ensures { result ≡ max4 a b c d }
-{
-    greatest(greatest(a, b), greatest(c, d))
 }
 
 // How far a number lies from 0, and a negative one from -1.
@@ -99,19 +85,32 @@ pub fn quotient(a: i64, b: i64) -> i64
     floor_div(a, b)
 }
 
+// The least and the greatest of the four corners.
+fn corners<F: Fn(i64, i64) -> i64>(corner: F, x: Interval, y: Interval) -> Interval
+    requires called { (a b : ℤ) → Small a → Small b → F.pre corner a b }
+    requires ends { (Held x) × (Held y) }
+    ensures { (f : ℤ → ℤ → ℤ) → ((a b r : ℤ) → Small a → Small b → F.post corner a b r → r ≡ f a b) → result ≡ corners f x y }
+{
+    let p = corner(x.low, y.low);
+    let q = corner(x.low, y.high);
+    let r = corner(x.high, y.low);
+    let s = corner(x.high, y.high);
+    Interval {
+        low: least(least(p, q), least(r, s)),
+        high: greatest(greatest(p, q), greatest(r, s)),
+    }
+}
+
 // A product: the least and the greatest of its four corners.
 pub fn mul_bounds(x: Interval, y: Interval) -> Interval
     requires { (Held x) × (Held y) }
     ensures { result ≡ mul_bounds x y }
 {
-    let p = x.low * y.low;
-    let q = x.low * y.high;
-    let r = x.high * y.low;
-    let s = x.high * y.high;
-    Interval {
-        low: least4(p, q, r, s),
-        high: greatest4(p, q, r, s),
-    }
+    let product = |a: i64, b: i64|
+        requires { (Small a) × (Small b) }
+        ensures { result ≡ a *ℤ b }
+    { a * b };
+    corners(product, x, y)
 }
 
 // A floored quotient: the least and the greatest of its four corners.
@@ -119,18 +118,7 @@ pub fn idiv_bounds(x: Interval, y: Interval) -> Interval
     requires { (Held x) × (Held y) }
     ensures { result ≡ idiv_bounds x y }
 {
-    let al = x.low;
-    let ah = x.high;
-    let bl = y.low;
-    let bh = y.high;
-    let p = quotient(al, bl);
-    let q = quotient(al, bh);
-    let r = quotient(ah, bl);
-    let s = quotient(ah, bh);
-    Interval {
-        low: least4(p, q, r, s),
-        high: greatest4(p, q, r, s),
-    }
+    corners(|a, b| quotient(a, b), x, y)
 }
 
 // Whether less: 1 where always, 0 where never, else either.

@@ -11,7 +11,7 @@ ghost use Rattle.views.specs.Walks.{InFront, Walks};
 ghost use Rattle.walking.specs.Alike.{Still, Reaches};
 ghost use Rattle.walking.specs.Movements.{viewed_from, Viewed};
 
-use plan::{Node, Row};
+use plan::{Node, Operation, Row};
 use shapes::Shape;
 use views::View;
 
@@ -69,11 +69,10 @@ pub fn view_of(x: Node, s: Shape, base: usize) -> View
 {
     let g = views::grid(s);
     let rank = shapes::rank(s);
-    let op = x.op;
-    match op {
-        2 => views::permute_view(base, g, views::axes(x.rowa, rank)),
-        3 => views::flip_view(base, g, views::words(x.rowa, rank)),
-        5 => views::spread_view(base, g),
+    match Operation::try_from(x.op) {
+        Ok(Operation::Permute) => views::permute_view(base, g, views::axes(x.rowa, rank)),
+        Ok(Operation::Flip) => views::flip_view(base, g, views::words(x.rowa, rank)),
+        Ok(Operation::Expand) => views::spread_view(base, g),
         _ => views::shrink_view(base, g, views::words(x.rowb, rank)),
     }
 }
