@@ -1,6 +1,6 @@
 -- What every outcome of the reader keeps to: values, positions, lengths, refusals.
 use Prim.Native.Nat.{ℕ, zero, suc, ◌+◌, ◌*◌, ◌%◌, ◌<◌, ◌≤◌}
-use mathlib.Core.Path.{◌≡◌, refl, ap, subst, ◌∙◌}
+use mathlib.Core.Path.{◌≡◌, refl, sym, ap, subst, ◌∙◌}
 use mathlib.Core.Bool.{Bool, true, false, ◌&&◌, not, cond}
 use mathlib.Core.List.{List, [], ◌∷◌, ◌++◌}
 use native.Mathlib.Omega.{arith}
@@ -201,8 +201,8 @@ all_hold edition s at n =
     holds_need P Q (leb (length s) u.next) 22 u.next (need (eqb edition (edition_of u.words)) 26 0 (accepted u))
     (λ _. holds_need P Q (eqb edition (edition_of u.words)) 26 0 (accepted u) (λ _. q) (omega arith, λ i. omega arith)) (omega arith, q.1))
 
-pub opening_in : (s : List ℕ) {o : Opened} → opening_at s ≡ accepted o → OpenedIn s o
-opening_in s e = subst (Holds (OpenedIn s) (PlacedIn s 0)) e (opening_holds s)
+pub opening_in : (s : List ℕ) {o : Opened} → accepted o ≡ opening_at s → OpenedIn s o
+opening_in s e = subst (Holds (OpenedIn s) (PlacedIn s 0)) (sym e) (opening_holds s)
 
 pub all_long : (edition : ℕ) (s : List ℕ) (at n : ℕ) {u : Unpacked} → all_nodes edition n s at ≡ accepted u → length u.words ≡ 17 * n
 all_long edition s at n e = (subst (Holds (WordsIn s at (17 * n)) (PlacedIn s at)) e (all_hold edition s at n)).0

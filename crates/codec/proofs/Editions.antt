@@ -1,33 +1,30 @@
 -- New operations in a table, and in what begins with it.
 use Prim.Native.Nat.{ℕ, zero, suc, ◌+◌, ◌*◌, ◌<◌, ◌≤◌}
 use mathlib.Core.Path.{◌≡◌, refl, sym, ap, ◌∙◌}
-use mathlib.Core.Bool.{Bool, true, false, ◌&&◌, ◌||◌, not, cond, false≢true}
+use mathlib.Core.Bool.{Bool, true, false, ◌&&◌, not, cond, false≢true}
 use mathlib.Core.Logic.{◌⊎◌, inl, inr}
 use mathlib.Core.List.{List, ◌++◌}
 use native.Mathlib.Omega.{arith}
+use borrow.Author.Tests.{ltb-false, ne_eqb}
 use native.Mathlib.Numerals.{add-one}
 use native.Mathlib.Nat.{add-zero}
-use lib.Dec.{eqb}
 use lib.IntN.{ℤ, pos}
 use lib.ListN.{length, get_or, drop, get_or-append}
 use lib.Seq.{sets, sets-eq, get_or-append-add}
+use Rattle.std.specs.Prelude.{Result, Ok, Err, MatchResult}
+use Rattle.plan.specs.declared.operations.Operation.{Operation}
+use Rattle.plan.specs.declared.operations.UnknownOperation.{UnknownOperation}
+use Rattle.plan.specs.Coded.{number_of, Decodes}
 use Rattle.laws.specs.Lists.{all_below, among}
 use Rattle.laws.proofs.Booleans.{bool_cases, and_true, all_below_lem, all_below_snoc}
 use Rattle.plan.specs.Operations.{operation_count, is_new, is_operation, in_file}
 use Rattle.plan.proofs.ByOperation.{operation_small}
 use Rattle.plan.specs.Words.{size_of, size_at, words_of}
 use Rattle.plan.proofs.Decoding.{word_at_lem}
+use Rattle.codec.specs.declared.Edition.{Edition}
+use Rattle.codec.specs.declared.Edition.TheVariants.{First, Second}
 use Rattle.codec.specs.Plans.{none_new}
-
-pub new_is : (op : ℕ) → (eqb op 21 || (eqb op 22 || eqb op 23)) ≡ is_new op
-unfolding is_new among
-new_is op = by (eqb op 21) (eqb op 22) (eqb op 23)
-  where
-    by : (a b c : Bool) → (a || (b || c)) ≡ (a || (b || (c || false)))
-    by true b c = refl
-    by false true c = refl
-    by false false true = refl
-    by false false false = refl
+use Rattle.codec.specs.Steps.{edition_number}
 
 -- every operation of a file is one
 pub file_known : (edition op : ℕ) → in_file edition op ≡ true → op < operation_count
@@ -80,14 +77,14 @@ pub none_begun : (t : List ℤ) → none_new t 0 ≡ true
 unfolding none_new all_below
 none_begun t = refl
 
-module _ (t : List ℤ) (i : ℕ) {w : ℤ} {op : ℕ} {b : Bool} (at : w ≡ get_or t (17 * i) (pos 0)) (is : op ≡ size_of w) (new : b ≡ is_new op) where
-  here : is_new (op_in t i) ≡ b
-  here = sym (new ∙ ap is_new (is ∙ ap size_of at))
+module _ (t : List ℤ) (i : ℕ) {w : ℤ} {op : ℕ} (at : w ≡ get_or t (17 * i) (pos 0)) (is : op ≡ size_of w) where
+  here : is_new (op_in t i) ≡ is_new op
+  here = sym (ap is_new (is ∙ ap size_of at))
 
-  pub none_yet : none_new t i ≡ true → b ≡ false → none_new t (i + 1) ≡ true
+  pub none_yet : none_new t i ≡ true → is_new op ≡ false → none_new t (i + 1) ≡ true
   none_yet e f = none_more t i ∙ rw (e, here, f) refl
 
-  pub new_found : (count : ℕ) → i < count → b ≡ true → ◌≡◌ {A = ℕ} 2 (cond (none_new t count) 1 2)
+  pub new_found : (count : ℕ) → i < count → is_new op ≡ true → ◌≡◌ {A = ℕ} 2 (cond (none_new t count) 1 2)
   unfolding none_new
   new_found count l f =
       bool_cases (none_new t count)
@@ -96,5 +93,26 @@ module _ (t : List ℤ) (i : ℕ) {w : ℤ} {op : ℕ} {b : Bool} (at : w ≡ ge
       absurd (false≢true (rw (op_in_lem t i, here, f) at old)))
       (λ some. rw some refl)
 
-pub none_new_lem : (t : List ℤ) (i count : ℕ) → i ≤ count → count ≤ i → none_new t i ≡ true → ◌≡◌ {A = ℕ} 1 (cond (none_new t count) 1 2)
-none_new_lem t i count l g e = let same : i ≡ count = omega arith in rw (← same, e) refl
+-- a number that no operation has
+module _ (op : ℕ) (unknown : is_operation op ≡ false) where
+  pub not_new : is_new op ≡ false
+  unfolding is_operation is_new among
+  not_new =
+      let large : 24 ≤ op = ltb-false op 24 unknown in
+      rw (ne_eqb op 21 (λ e. omega arith), ne_eqb op 22 (λ e. omega arith), ne_eqb op 23 (λ e. omega arith)) refl
+
+  pub not_in_file : (edition : ℕ) → in_file edition op ≡ false
+  unfolding in_file
+  not_in_file edition = rw unknown refl
+
+-- whether the operation that a number is decoded to is new
+pub new_is : (n : ℕ) {b : Bool} (r : Result Operation UnknownOperation) → Decodes n r → MatchResult r (λ op. b ≡ is_new (number_of op)) (λ _. b ≡ false) → b ≡ is_new n
+new_is n (Ok op) d h = h ∙ ap is_new d
+new_is n (Err e) d h = h ∙ sym (not_new n d.1)
+
+-- editions of the same number are the same
+pub edition_same : (a b : Edition) → edition_number a ≡ edition_number b → a ≡ b
+edition_same First First e = refl
+edition_same First Second e = absurd (omega arith)
+edition_same Second First e = absurd (omega arith)
+edition_same Second Second e = refl

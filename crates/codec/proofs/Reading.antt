@@ -1,37 +1,16 @@
 -- Packed numbers as the code reads them: one law for each way through it.
 use Prim.Native.Nat.{ℕ, zero, suc, ◌+◌, ◌*◌, ◌-◌, ◌%◌, ◌^◌, ◌≤◌, ◌<◌}
-use mathlib.Core.Path.{◌≡◌, refl, sym, ap, ◌∙◌}
+use mathlib.Core.Path.{◌≡◌, refl, ap, ◌∙◌}
 use mathlib.Core.Bool.{Bool, true, false, ◌&&◌}
 use mathlib.Core.List.{List}
 use native.Mathlib.Nat.{le_refl, mod-lt, pow-succ', one-le-pow, mul-le-mul_left}
 use native.Mathlib.Numerals.{sub-one}
 use native.Mathlib.Omega.{arith}
-use borrow.Author.Tests.{lt-ltb, le-ltb, eq-eqb, ne_eqb}
+use borrow.Author.Tests.{lt-ltb, le-ltb, ne_eqb}
 use lib.Dec.{ltb, eqb, lit<}
 use lib.ListN.{length, get_or}
 use Rattle.plan.specs.Answers.{Outcome, accepted, refused, refuse, and_then}
-use Rattle.codec.specs.declared.Number.{Number}
-use Rattle.codec.specs.declared.Number.TheVariants.{Value, Broken}
 use Rattle.codec.specs.Numbers.{Read, groups_at, number_at}
-use Rattle.codec.specs.Steps.{number_of}
-
--- the outcome behind an answer
-module _ {x : Number} (o : Outcome Read) (e : x ≡ number_of o) where
-  pub value_is : {v next : ℕ} → x ≡ Value v next → o ≡ accepted (record { value = v; next = next })
-  unfolding number_of
-  value_is {v} {next} q = by o (sym e ∙ q)
-    where
-      by : (o : Outcome Read) → number_of o ≡ Value v next → o ≡ accepted (record { value = v; next = next })
-      by (accepted r) h = let p : r.value ≡ v = cc in let q : r.next ≡ next = cc in rw (← p, ← q)
-      by (refused r) h = let z : ◌≡◌ {A = ℕ} 0 1 = cc in absurd (omega arith)
-
-  pub broken_is : {n p : ℕ} → x ≡ Broken n p → o ≡ refuse n p
-  unfolding number_of
-  broken_is {n} {p} q = by o (sym e ∙ q)
-    where
-      by : (o : Outcome Read) → number_of o ≡ Broken n p → o ≡ refuse n p
-      by (refused r) h = let a : r.number ≡ n = cc in let b : r.place ≡ p = cc in rw (← a, ← b)
-      by (accepted r) h = let z : ◌≡◌ {A = ℕ} 0 1 = cc in absurd (omega arith)
 
 -- v, and `scale` times the number that is read
 abbrev pub added : ℕ → ℕ → Outcome Read → Outcome Read
@@ -57,10 +36,10 @@ module _ (s : List ℕ) (from at : ℕ) where
   bytes_end (suc k) h l = simp (le-ltb _ _ l)
 
   module _ (b : ℕ) (is : b ≡ get_or s at 0) (l : at < length s) where
-    padded : (k : ℕ) → 0 < k → b < 128 → (eqb b 0 && ltb from at) ≡ true → groups_at k s from at ≡ refuse 21 from
+    padded : (k : ℕ) → 0 < k → b ≡ 0 → from < at → groups_at k s from at ≡ refuse 21 from
     unfolding groups_at
-    padded zero h q z = absurd (omega arith)
-    padded (suc k) h q z = rw (← is) (simp (lt-ltb _ _ l, lt-ltb _ _ q, z))
+    padded zero h z m = absurd (omega arith)
+    padded (suc k) h z m = rw (← is, z) (simp (lt-ltb _ _ l, lt-ltb _ _ m))
 
     pub last_group : (k : ℕ) → 0 < k → b < 128 → (eqb b 0 && ltb from at) ≡ false → groups_at k s from at ≡ accepted (record { value = b; next = at + 1 })
     unfolding groups_at
@@ -95,8 +74,7 @@ module _ (s : List ℕ) (from : ℕ) where
   reach_second {b} l is q = record { number = more_groups s from from b is l 5 (lit< tt) q; small = mod-lt b {m = 128} (lit< tt); room = omega arith }
 
   module _ {v scale at k : ℕ} (h : Reached v scale at k) where
-    pub reach_none : k ≤ 0 → Broken 21 from ≡ number_of (number_at s from)
-    unfolding number_of
+    pub reach_none : k ≤ 0 → refuse 21 from ≡ number_at s from
     reach_none z = rw (h.number, no_groups s from at k (omega arith))
 
     module _ (more : 0 < k) where
@@ -113,17 +91,14 @@ module _ (s : List ℕ) (from : ℕ) where
       pub group_fits : (b : ℕ) → b < 128 → v + scale * b < 34359738368
       group_fits b q = omega (arith, h.small, scale_fits, mul-le-mul_left scale q)
 
-      pub reach_end : length s ≤ at → Broken 20 from ≡ number_of (number_at s from)
-      unfolding number_of
+      pub reach_end : length s ≤ at → refuse 20 from ≡ number_at s from
       reach_end l = rw (h.number, bytes_end s from at k more l)
 
       module _ {b : ℕ} (is : b ≡ get_or s at 0) (l : at < length s) where
-        pub reach_padded : b < 128 → (eqb b 0 && ltb from at) ≡ true → Broken 21 from ≡ number_of (number_at s from)
-        unfolding number_of
-        reach_padded q z = rw (h.number, padded s from at b is l k more q z)
+        pub reach_padded : b ≡ 0 → from < at → refuse 21 from ≡ number_at s from
+        reach_padded z m = rw (h.number, padded s from at b is l k more z m)
 
-        pub reach_last : b < 128 → (eqb b 0 && ltb from at) ≡ false → Value (v + scale * b) (at + 1) ≡ number_of (number_at s from)
-        unfolding number_of
+        pub reach_last : b < 128 → (eqb b 0 && ltb from at) ≡ false → accepted (record { value = v + scale * b; next = at + 1 }) ≡ number_at s from
         reach_last q z = rw (h.number, last_group s from at b is l k more q z)
 
         pub reach_next : 128 ≤ b → Reached (v + scale * (b % 128)) (scale * 128) (at + 1) (k - 1)
@@ -134,24 +109,20 @@ module _ (s : List ℕ) (from : ℕ) where
               room = room_next;
             }
 
--- whether a byte after the first is a last byte of 0
-module _ (from at b : ℕ) where
-  pub last_zero : from < at → b ≡ 0 → (eqb b 0 && ltb from at) ≡ true
-  last_zero l z = simp (eq-eqb b 0 z, lt-ltb from at l)
+-- a byte that is not 0 is no padding
+pub last_other : (from at b : ℕ) → (b ≡ 0 → ⊥) → (eqb b 0 && ltb from at) ≡ false
+last_other from at b z = simp (ne_eqb b 0 z)
 
-  pub last_other : (b ≡ 0 → ⊥) → (eqb b 0 && ltb from at) ≡ false
-  last_other z = simp (ne_eqb b 0 z)
-
-pub ruleset reach-laws = (reach_none, reach_end, reach_padded, reach_last, last_zero, last_other)
+pub ruleset reach-laws = (reach_none, reach_end, reach_padded, reach_last, last_other)
 
 -- no byte of a number
-pub no_byte : (s : List ℕ) (at : ℕ) → length s ≤ at → Broken 20 at ≡ number_of (number_at s at)
-unfolding number_at number_of
+pub no_byte : (s : List ℕ) (at : ℕ) → length s ≤ at → refuse 20 at ≡ number_at s at
+unfolding number_at
 no_byte s at l = rw (bytes_end s at at 5 (lit< tt) l)
 
 -- a number of one byte
-pub one_byte : (s : List ℕ) (at b : ℕ) → b ≡ get_or s at 0 → at < length s → b < 128 → Value b (at + 1) ≡ number_of (number_at s at)
-unfolding number_at number_of
+pub one_byte : (s : List ℕ) (at b : ℕ) → b ≡ get_or s at 0 → at < length s → b < 128 → accepted (record { value = b; next = at + 1 }) ≡ number_at s at
+unfolding number_at
 one_byte s at b is l q = rw (last_group s at at b is l 5 (omega arith) q (by (eqb b 0)))
   where
     by : (t : Bool) → (t && ltb at at) ≡ false

@@ -1,33 +1,33 @@
--- What the reader's functions answer, and the parts of unpacking that each of them does.
-use Rattle.std.specs.Prelude.{ℕ, ◌/◌, ◌≡◌, Bool, ◌&&◌, cond, List, [], ◌∷◌, length, leb, eqb, ℤ, pos}
+-- How the code holds what the reader finds, and the parts of unpacking that each of its functions does.
+use Rattle.std.specs.Prelude.{ℕ, ◌/◌, ◌≡◌, Bool, ◌&&◌, cond, List, [], ◌∷◌, length, leb, eqb, ℤ, pos, Result}
 use Rattle.std.proofs.lemmas.List.Edits.{sets}
+use Rattle.plan.specs.declared.faults.Refusal.{Refusal as Refused}
 use Rattle.plan.specs.Answers.{Outcome, accepted, refused, need, and_then, in_turn}
+use Rattle.plan.specs.Coded.{outcome_of}
 use Rattle.plan.specs.Words.{words_per_node, node_limit}
 use Rattle.codec.specs.declared.Number.{Number}
-use Rattle.codec.specs.declared.Number.TheVariants.{Value, Broken}
-use Rattle.codec.specs.declared.Step.{Step}
-use Rattle.codec.specs.declared.Step.TheVariants.{Next, Stop}
-use Rattle.codec.specs.declared.Plan.{Plan}
-use Rattle.codec.specs.declared.Plan.TheVariants.{Nodes, Stop as NoPlan}
-use Rattle.codec.specs.Numbers.{Read, number_at, word_of}
 use Rattle.codec.specs.declared.Opening.{Opening}
-use Rattle.codec.specs.declared.Opening.TheVariants.{Opens, Fails}
+use Rattle.codec.specs.declared.Edition.{Edition}
+use Rattle.codec.specs.declared.Edition.TheVariants.{First, Second}
+use Rattle.codec.specs.Numbers.{Read, number_at, word_of}
 use Rattle.codec.specs.Plans.{Unpacked, read_word, header_of, edition_at, edition_of, add_node}
 
--- a packed number: its value and the position after it, or the refusal
-unfoldable pub number_of : Outcome Read → Number
-number_of (accepted r) = Value r.value r.next
-number_of (refused r) = Broken r.number r.place
+-- a number that was read
+abbrev pub read_of : Number → Read
+read_of n = record { value = n.value; next = n.next }
 
--- words: the position after them, or the refusal
-unfoldable pub step_of : Outcome Unpacked → Step
-step_of (accepted u) = Next u.next
-step_of (refused r) = Stop r.number r.place
+-- the number of an edition
+abbrev pub edition_number : Edition → ℕ
+edition_number First = 1
+edition_number Second = 2
 
--- a plan: its node count, or the refusal
-unfoldable pub plan_of : Outcome Unpacked → Plan
-plan_of (accepted u) = Nodes (length u.words / words_per_node)
-plan_of (refused r) = NoPlan r.number r.place
+-- the position after the words that were read
+abbrev pub position_in : Outcome Unpacked → Outcome ℕ
+position_in o = and_then o (λ u. accepted u.next)
+
+-- how many nodes they are
+abbrev pub count_in : Outcome Unpacked → Outcome ℕ
+count_in o = and_then o (λ u. accepted (length u.words / words_per_node))
 
 -- words that were read stand in the table from place `to` on, and nothing else of it changed
 unfoldable pub Stands : Outcome Unpacked → List ℤ → ℕ → List ℤ → Type 0
@@ -35,8 +35,8 @@ Stands (accepted u) before to after = after ≡ sets before to u.words
 Stands (refused r) before to after = Unit
 
 -- what a reader answers, and what it leaves in its table
-pub record Wrote (o : Outcome Unpacked) (r : Step) (before : List ℤ) (to : ℕ) (after : List ℤ) : Type 0 where
-  pub answer : r ≡ step_of o
+pub record Wrote (o : Outcome Unpacked) (r : Result ℕ Refused) (before : List ℤ) (to : ℕ) (after : List ℤ) : Type 0 where
+  pub answer : outcome_of (λ n. n) r ≡ position_in o
   pub table : Stands o before to after
 
 -- one word of a node by itself
@@ -68,12 +68,11 @@ pub record Opened : Type 0 where
   pub count : ℕ
   pub next : ℕ
 
+abbrev pub opened_of : Opening → Opened
+opened_of o = record { edition = edition_number o.edition; count = o.count; next = o.next }
+
 unfoldable pub opening_at : List ℕ → Outcome Opened
 opening_at s = and_then (head_at s) (λ head. and_then (count_at s head.next) (λ count. accepted (record { edition = head.value; count = count.value; next = count.next })))
-
-unfoldable pub opening_of : Outcome Opened → Opening
-opening_of (accepted o) = Opens o.edition o.count o.next
-opening_of (refused r) = Fails r.number r.place
 
 -- all nodes, with no byte left over, of the plan's own edition
 unfoldable pub all_nodes : ℕ → ℕ → List ℕ → ℕ → Outcome Unpacked

@@ -1,9 +1,6 @@
-use Prim.Native.Nat.{◌<◌}
+use Prim.Native.Nat.{◌+◌, ◌-◌, ◌<◌}
 use Rattle.codec.proofs.Reading.{Reached}
 use Rattle.codec.proofs.groups.Given as goal
 
-abbrev pub invariant-loop-left : goal.invariant-loop-left
-invariant-loop-left l = (l.from < l.at) × Reached l.s l.from l.value l.scale l.at l.left
-
-abbrev pub decreases-loop-left : goal.decreases-loop-left
-decreases-loop-left l = l.left
+abbrev pub invariant-loop-at : goal.invariant-loop-at
+invariant-loop-at l = (l.from < l.at) × Reached l.bytes l.from l.value l.scale l.at (l.from + 5 - l.at)
