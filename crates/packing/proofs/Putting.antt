@@ -18,11 +18,10 @@ use Rattle.laws.proofs.Booleans.{bool_cases}
 use Rattle.laws.proofs.Machine.{read_back, read_back_is, read_below, flip_is}
 use Rattle.packing.specs.Bytes.{groups_of, bytes_of, packed_word}
 use Rattle.laws.specs.Pieces.{Writes}
-use Rattle.packing.specs.Writing.{word_bytes, Decoded}
+use Rattle.packing.specs.Writing.{word_bytes}
 use Rattle.packing.specs.Packing.{words_to, node_bytes}
 use Rattle.plan.specs.Operations.{uses, operation_count}
 use Rattle.plan.specs.Words.{word_at, size_at}
-use Rattle.plan.proofs.Masks.{mask_bit, mask_low, mask_last}
 use Rattle.codec.proofs.Prefix.{used, few_used}
 use Rattle.packing.proofs.NumbersBack.{one_group, next_group}
 use Rattle.laws.proofs.Pieces.{nothing, within, then, said, same_room, room_left}
@@ -148,40 +147,25 @@ word_room at n u h = rw u at h
 
 -- ---- a node's words
 
--- a bit that is left is that of a word, and words after the last bit are not used
-pub words_left : {w : List ℤ} {op mask k : ℕ} → Decoded w op mask → op < operation_count → k ≤ 16 → 1 < mask / 2 ^ k → k < 16
-words_left {k = k} d o l h = ⊎_elim (λ (e : k ≡ 16). absurd (omega (arith, mask_low _ o, rw (e, d.is_mask) at h))) (λ (q : k < 16). q) (eq-or-lt_of_le l)
-
-words_after : (w : List ℤ) (op mask k j : ℕ) → Decoded w op mask → op < operation_count → k + j ≤ 16 → mask / 2 ^ k ≤ 1 → words_to op w (k + j) ≡ words_to op w k
-unfolding words_to
-words_after w op mask k zero d o l h = rw (add-zero k) refl
-words_after w op mask k (suc j) d o l h =
-    rw (add-suc k j, add-one, mask_last op k (suc (k + j)) o (omega arith) (omega arith) (rw d.is_mask at h), append-nil (words_to op w (k + j))) (words_after w op mask k j d o (omega arith) h)
-
-module _ (w : List ℤ) (op mask : ℕ) (d : Decoded w op mask) (known : op < operation_count) {before : List ℕ} {at : ℕ} where
+module _ (w : List ℤ) (op : ℕ) (known : op < operation_count) {before : List ℕ} {at : ℕ} where
   pub words_none : Writes (words_to op w 0) (5 * used op 0) before at before at
   unfolding words_to used
   words_none = nothing before at
 
-  module _ (k : ℕ) (less : k < 16) {bit : Bool} (is : bit ≡ eqb (mask / 2 ^ (k + 1) % 2) 1) {mid : List ℕ} {to : ℕ} (so : Writes (words_to op w k) (5 * used op k) before at mid to) where
-    bit_is : bit ≡ uses op (k + 1)
-    bit_is = is ∙ rw d.is_mask (mask_bit op (k + 1) (known) (omega arith))
-
+  module _ (k : ℕ) (less : k < 16) {bit : Bool} (is : bit ≡ uses op (k + 1)) {mid : List ℕ} {to : ℕ} (so : Writes (words_to op w k) (5 * used op k) before at mid to) where
     pub words_room : at + 45 ≤ length before → to + 5 * cond bit 1 0 ≤ length mid
     unfolding used
-    words_room h = room_left (5 * cond bit 1 0) 45 so h (rw bit_is (omega (arith, few_used op (suc k) (known) (omega arith))))
+    words_room h = room_left (5 * cond bit 1 0) 45 so h (rw is (omega (arith, few_used op (suc k) known (omega arith))))
 
     pub words_more : {z : ℤ} {after : List ℕ} {next : ℕ} → z ≡ word_at w (k + 1) → Writes (word_bytes bit z) (5 * cond bit 1 0) mid to after next
         → Writes (words_to op w (k + 1)) (5 * used op (k + 1)) before at after next
     unfolding words_to used
     words_more {z} e v =
-        let v' : Writes (word_bytes (uses op (k + 1)) (word_at w (k + 1))) (5 * cond (uses op (k + 1)) 1 0) mid to _ _ = rw (bit_is, e) at v in
+        let v' : Writes (word_bytes (uses op (k + 1)) (word_at w (k + 1))) (5 * cond (uses op (k + 1)) 1 0) mid to _ _ = rw (is, e) at v in
         rw (add-one) (within (5 * (used op k + cond (uses op (k + 1)) 1 0)) (then so v') (omega arith))
 
-  pub words_done : {k : ℕ} {after : List ℕ} {next : ℕ} → k ≤ 16 → mask / 2 ^ k ≤ 1 → Writes (words_to op w k) (5 * used op k) before at after next → Writes (words_to op w 16) 45 before at after next
-  words_done {k} l h v =
-      let all : words_to op w k ≡ words_to op w 16 = sym (words_after w op mask k (16 - k) d known (omega arith) h) ∙ ap (words_to op w) (omega arith) in
-      said all (within 45 v (omega (arith, few_used op k known (omega arith))))
+  pub words_done : {after : List ℕ} {next : ℕ} → Writes (words_to op w 16) (5 * used op 16) before at after next → Writes (words_to op w 16) 45 before at after next
+  words_done v = within 45 v (omega (arith, few_used op 16 known (omega arith)))
 
 -- the operation, of one byte, and then the words
 pub node_written : (w : List ℤ) (op : ℕ) {before mid after : List ℕ} {at place next : ℕ} → op < 128 → size_at w 0 ≡ op → Writes (groups_of 1 op) 1 before at mid place

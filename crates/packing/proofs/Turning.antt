@@ -12,27 +12,22 @@ use lib.IntN.{ℤ, pos}
 use lib.ListN.{length, get_or, take, drop, length-append}
 use lib.Seq.{sets-eq, take_at, length-take-le}
 use Rattle.laws.proofs.Booleans.{and_true}
-use Rattle.plan.specs.declared.Answer.{Answer}
 use Rattle.plan.specs.Operations.{masks}
 use Rattle.plan.specs.Words.{size_of, words_of, node_count, length_right}
-use Rattle.plan.specs.Answers.{Outcome, accepted, refused, refuse, in_turn, written}
+use Rattle.plan.specs.Answers.{Refusal, Outcome, accepted, refused, refuse, in_turn, answer_of, written, AllHold, FirstFailing}
 use Rattle.plan.proofs.Decoding.{word_at_lem}
-use Rattle.plan.proofs.Outcomes.{turn_more, turn_stays, order_holds, order_fails}
-use Rattle.codec.specs.declared.Step.{Step}
-use Rattle.codec.specs.declared.Step.TheVariants.{Next, Stop}
+use Rattle.plan.proofs.Outcomes.{never_both, refused_same, turn_more, turn_stays, order_holds, order_fails}
+use Rattle.std.specs.Prelude.{Result, Ok, Err, IsErrAnd}
+use Rattle.plan.specs.declared.faults.Refusal.{Refusal as Refused}
+use Rattle.plan.specs.Coded.{fault_number, refusal_of, outcome_of}
+use Rattle.codec.proofs.Storing.{refusal_is}
 use Rattle.codec.specs.Plans.{header_of, none_new, edition_of}
 use Rattle.packing.specs.Bytes.{groups_of, bytes_of}
 use Rattle.packing.specs.Packing.{pack_rules, node_bytes, pack_node, pack, pack_answer, bytes_after}
 use Rattle.laws.specs.Pieces.{Writes}
-use Rattle.packing.specs.Writing.{Decoded, Breaks, Ended}
+use Rattle.packing.specs.Writing.{Ended, length_in}
 use Rattle.laws.proofs.Pieces.{then, within, said, same_room}
 use Rattle.packing.proofs.Putting.{groups_enough}
-
--- what is looked up of a node, by the part of the table that is lent
-pub decoded : (t : List ℤ) (n : ℕ) {w : List ℤ} {op mask : ℕ} → w ≡ words_of t n → length w ≡ 17 → op ≡ size_of (get_or t (17 * n) (pos 0)) → mask ≡ get_or masks op 0 → Decoded w op mask
-decoded t n {w} {op} part long is mask =
-    let first : get_or w 0 (pos 0) ≡ get_or t (17 * n) (pos 0) = rw part (word_at_lem t n 0 (omega arith) ∙ rw (add-zero (17 * n)) refl) in
-    record { long = long; is_operation = is ∙ ap size_of (sym first); is_mask = mask }
 
 -- the bytes up to the end of a piece
 pub taken : {ws before after : List ℕ} {most at next : ℕ} → Writes ws most before at after next → at + most ≤ length before → take next after ≡ take at before ++ ws
@@ -52,31 +47,31 @@ module _ (t : List ℤ) (before : List ℕ) (start : ℕ) where
   unfolding in_turn
   sofar_first = record { turns = refl; inside = omega arith; long = refl }
 
-  module _ {now : List ℕ} {at n : ℕ} (s : Sofar t before start now at n) {w : List ℤ} (is : w ≡ words_of t n) {r : ℕ} (b : Breaks w r) where
-    pub sofar_next : {after : List ℕ} {next : ℕ} → r ≡ 0 → at + 46 ≤ length now → Writes (node_bytes w) 46 now at after next → Sofar t before start after next (n + 1)
+  module _ {now : List ℕ} {at n : ℕ} (s : Sofar t before start now at n) {w : List ℤ} (is : w ≡ words_of t n) where
+    pub sofar_next : {after : List ℕ} {next : ℕ} → AllHold (pack_rules w) → at + 46 ≤ length now → Writes (node_bytes w) 46 now at after next → Sofar t before start after next (n + 1)
     unfolding pack_node
-    sofar_next {after} {next} e h v =
+    sofar_next {after} {next} holds h v =
         record {
           turns = rw add-one (turn_more (pack_node t) (take start before) n s.turns
-              ∙ order_holds (pack_rules (words_of t n)) n (accepted (take at now ++ node_bytes (words_of t n))) (rw is at (b.meets e))
+              ∙ order_holds (pack_rules (words_of t n)) n (accepted (take at now ++ node_bytes (words_of t n))) (rw is at holds)
               ∙ ap accepted (sym (taken v h ∙ rw is refl)));
           inside = omega (arith, s.inside, v.is_next, v.short);
           long = same_room v ∙ s.long;
         }
 
-    pub sofar_stop : (count : ℕ) (after : List ℕ) → n < count → (r ≡ 0 → ⊥) → Ended (in_turn (pack_node t) (take start before) count) after (Stop r n)
+    pub sofar_stop : (count : ℕ) (x : Refused) (r : Result ℕ Refused) (after : List ℕ) → n < count → (x.place ≡ n) × FirstFailing (pack_rules w) (fault_number x.fault) → IsErrAnd r (λ y. y ≡ x)
+        → Ended (in_turn (pack_node t) (take start before) count) after r
     unfolding pack_node Ended
-    sofar_stop count after l z =
-        let here : in_turn (pack_node t) (take start before) (suc n) ≡ refuse r n =
-        turn_more (pack_node t) (take start before) n s.turns ∙ order_fails (pack_rules (words_of t n)) n (accepted (take at now ++ node_bytes (words_of t n))) (rw is at (b.breaks z)) in
-        rw (turn_stays (pack_node t) (take start before) (suc n) count l here) refl
+    sofar_stop count x r after l f i =
+        let here : in_turn (pack_node t) (take start before) (suc n) ≡ refused (refusal_of x) =
+        turn_more (pack_node t) (take start before) n s.turns ∙ order_fails (pack_rules (words_of t n)) n (accepted (take at now ++ node_bytes (words_of t n))) (rw is at f.1) ∙ rw f.0 refl in
+        rw (turn_stays (pack_node t) (take start before) (suc n) count l here) (refusal_is (λ n. n) x r i)
 
-  pub sofar_done : {now : List ℕ} {at n count : ℕ} → Sofar t before start now at n → n ≤ count → count ≤ n → at ≤ length now → Ended (in_turn (pack_node t) (take start before) count) now (Next at)
+  pub sofar_done : {now : List ℕ} {at count : ℕ} → Sofar t before start now at count → at ≤ length now → Ended (in_turn (pack_node t) (take start before) count) now (Ok at)
   unfolding Ended
-  sofar_done {now} {at} {n} {count} s l h room =
-      let e : n ≡ count = omega arith in
+  sofar_done {now} {at} s room =
       let long : length (take at now) ≡ at = length-take-le at now room in
-      rw (← e, s.turns, long) (refl, refl, room)
+      rw (s.turns, long) (refl, refl, room)
 
 -- ---- the whole
 
@@ -107,10 +102,10 @@ module _ (t : List ℤ) (buffer : List ℕ) where
   wrong_length e = rw e refl
 
 -- the outcome behind an answer
-pub stop_is : (o : Outcome (List ℕ)) (after : List ℕ) {r : Step} {n p : ℕ} → Ended o after r → r ≡ Stop n p → o ≡ refuse n p
+pub stop_is : (x : Refused) (o : Outcome (List ℕ)) (after : List ℕ) → Ended o after (Err x) → o ≡ refused (refusal_of x)
 unfolding Ended
-stop_is (refused x) after {n = n} {p = p} e q = let a : x.number ≡ n = cc in let b : x.place ≡ p = cc in rw (← a, ← b)
-stop_is (accepted bs) after e q = let z : ◌≡◌ {A = ℕ} 0 1 = cc e.0 in absurd (omega arith)
+stop_is x (refused r) after e = ap refused (sym (refused_same e))
+stop_is x (accepted bs) after e = let z : ◌≡◌ {A = ℕ} 0 1 = cc e.0 in absurd (omega arith)
 
 pub record Written (o : Outcome (List ℕ)) (after : List ℕ) (end : ℕ) : Type 0 where
   pub bytes : List ℕ
@@ -119,10 +114,10 @@ pub record Written (o : Outcome (List ℕ)) (after : List ℕ) (end : ℕ) : Typ
   pub stand : take end after ≡ bytes
   pub inside : end ≤ length after
 
-pub next_is : (o : Outcome (List ℕ)) (after : List ℕ) {r : Step} {end : ℕ} → Ended o after r → r ≡ Next end → Written o after end
+pub next_is : (o : Outcome (List ℕ)) (after : List ℕ) {end : ℕ} → Ended o after (Ok end) → Written o after end
 unfolding Ended
-next_is (refused x) after e q = let z : ◌≡◌ {A = ℕ} 0 1 = cc in absurd (omega arith)
-next_is (accepted bs) after {end = end} e q =
+next_is (refused x) after e = never_both e
+next_is (accepted bs) after {end = end} e =
     let l : length bs ≡ end = cc e.0 in
     record { bytes = bs; is = refl; long = l; stand = rw (← l) e.1; inside = rw (← l) e.2 }
 
@@ -144,7 +139,7 @@ pub nodes_room : (count : ℕ) {ws local after : List ℕ} {next : ℕ} → Writ
 nodes_room count w l h = omega (arith, w.is_next, w.short, same_room w, l, h)
 
 module _ (t : List ℤ) (room : ℕ) (right : length_right t ≡ true) {count : ℕ} (d : Counted t count) {first : List ℕ} (is : first ≡ header_of (edition_of t) ++ bytes_of count) where
-  pub nodes_refused : {n p : ℕ} → in_turn (pack_node t) first count ≡ refuse n p → pack t room ≡ refuse n p
+  pub nodes_refused : {r : Refusal} → in_turn (pack_node t) first count ≡ refused r → pack t room ≡ refused r
   unfolding pack
   nodes_refused e = rw (right, d.is, ← is, e) refl
 
@@ -157,18 +152,23 @@ module _ (t : List ℤ) (room : ℕ) (right : length_right t ≡ true) {count : 
     unfolding pack
     packed h = rw (right, d.is, ← is, w.is, le-leb (length w.bytes) room (rw w.long h)) refl
 
--- the answer and the buffer
-module _ {o : Outcome (List ℕ)} {n p : ℕ} (e : o ≡ refuse n p) where
-  pub answer_refused : {a : Answer} → a ≡ record { number = n; place = p; count = 0 } → a ≡ pack_answer o
-  answer_refused h = rw e h
+-- the count and the buffer
+module _ {o : Outcome (List ℕ)} {r : Refusal} (e : o ≡ refused r) where
+  pub none_written : refused r ≡ length_in o
+  none_written = rw e refl
 
   pub bytes_kept : (b : List ℕ) → b ≡ bytes_after o b
   bytes_kept b = rw e refl
 
 module _ {o : Outcome (List ℕ)} {bs : List ℕ} (e : o ≡ accepted bs) {end : ℕ} (l : length bs ≡ end) where
-  pub answer_packed : {a : Answer} → a ≡ record { number = 0; place = 0; count = end } → a ≡ pack_answer o
-  answer_packed h = rw (e, l) h
+  pub bytes_written : accepted end ≡ length_in o
+  bytes_written = rw (e, l) refl
 
-  pub bytes_packed : (local buffer : List ℕ) {after : List ℕ} → take end local ≡ bs → after ≡ take end local ++ drop end buffer → after ≡ bytes_after o buffer
+  pub bytes_packed : (buffer : List ℕ) {front : List ℕ} → front ≡ bs → front ++ drop end buffer ≡ bytes_after o buffer
   unfolding written
-  bytes_packed local buffer q h = rw e (h ∙ rw (q, ← l) refl)
+  bytes_packed buffer q = rw (e, q, ← l) refl
+
+-- the answer to C
+pub answered : (o : Outcome (List ℕ)) (r : Result ℕ Refused) → outcome_of (λ n. n) r ≡ length_in o → answer_of (λ n. n) (outcome_of (λ n. n) r) ≡ pack_answer o
+answered (accepted bs) r e = rw e refl
+answered (refused x) r e = rw e refl

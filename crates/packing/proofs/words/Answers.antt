@@ -1,40 +1,33 @@
 use Prim.Native.Nat.{◌+◌}
+use mathlib.Core.Path.{◌≡◌, refl, ◌∙◌}
 use native.Mathlib.Omega.{arith}
 use borrow.Author.Rules.{rules}
-use lib.IntN.{pos}
+use lib.Dec.{eqb}
 use lib.ListN.{get_or}
-use Rattle.laws.proofs.Machine.{read_back_is, fit_at}
 use Rattle.laws.proofs.Pieces.{same_room}
-use Rattle.packing.proofs.Putting.{words_none, words_left, words_room, words_more, words_done}
+use Rattle.plan.specs.Operations.{masks}
+use Rattle.plan.specs.Coded.{number_of}
+use Rattle.plan.proofs.Coded.{number_small}
+use Rattle.plan.proofs.Masks.{mask_uses}
+use Rattle.packing.proofs.Putting.{words_none, words_room, words_more, words_done}
 use Rattle.packing.proofs.words.Goals as goal
 
 pub loop-k-init : goal.loop-k-init
-loop-k-init c = (search rules, words_none _ _ _ c.requires.0 c.requires.1)
-
-pub uses_word-used-requires : goal.uses_word-used-requires
-uses_word-used-requires c = omega (arith, words_left c.requires.0 c.requires.1 c.loop-k.invariant.0 c.loop-k-test.true)
-
-pub bounds-w-k : goal.bounds-w-k
-bounds-w-k c = omega (arith, c.requires.0.long, words_left c.requires.0 c.requires.1 c.loop-k.invariant.0 c.loop-k-test.true)
+loop-k-init c = words_none c.args.w.now _ (number_small c.args.op)
 
 pub word-to-requires : goal.word-to-requires
 word-to-requires c =
-    let less = words_left c.requires.0 c.requires.1 c.loop-k.invariant.0 c.loop-k-test.true in
-    words_room _ _ _ c.requires.0 c.requires.1 _ less c.uses_word-used.ensures c.loop-k.invariant.1 c.requires.2
-
-pub loop-k-smaller : goal.loop-k-smaller
-loop-k-smaller c = omega (arith, words_left c.requires.0 c.requires.1 c.loop-k.invariant.0 c.loop-k-test.true)
+    let op = c.args.op in
+    let used = c.uses_word-used.ensures ∙ rw (c.used_mask-mask.ensures, c.number.ensures, mask_uses (number_of op) (c.loop-k.k + 1) (omega arith)) refl in
+    words_room c.args.w.now _ (number_small op) _ c.loop-k-test.true used c.loop-k.invariant c.requires.1
 
 pub loop-k-preserved : goal.loop-k-preserved
 loop-k-preserved c =
-    let less = words_left c.requires.0 c.requires.1 c.loop-k.invariant.0 c.loop-k-test.true in
-    let word = read_back_is (fit_at (get_or c.args.w.now (c.loop-k.k + 1) (pos 0)) c.word-arg-1.given) in (
-      omega (arith, less),
-      words_more _ _ _ c.requires.0 c.requires.1 _ less c.uses_word-used.ensures c.loop-k.invariant.1 word c.word-to.ensures,
-    )
-
-pub shape_of-bytes : goal.shape_of-bytes
-shape_of-bytes c = same_room c.loop-k.invariant.1
+    let op = c.args.op in
+    let used = c.uses_word-used.ensures ∙ rw (c.used_mask-mask.ensures, c.number.ensures, mask_uses (number_of op) (c.loop-k.k + 1) (omega arith)) refl in
+    words_more c.args.w.now _ (number_small op) _ c.loop-k-test.true used c.loop-k.invariant (search rules) c.word-to.ensures
 
 pub returns : goal.returns
-returns c = words_done _ _ _ c.requires.0 c.requires.1 c.loop-k.invariant.0 c.loop-k-test.false c.loop-k.invariant.1
+returns c =
+    let all : c.loop-k.k ≡ 16 = omega arith in
+    words_done c.args.w.now _ (number_small c.args.op) (rw all at c.loop-k.invariant)
