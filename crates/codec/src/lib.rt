@@ -185,8 +185,7 @@ pub fn edition_of(table: &[i64], count: usize) -> Edition
     ensures { edition_number result ≡ cond (none_new table.now count) 1 2 }
 {
     for i in 0..count {
-        let word = table[17 * i];
-        let op = Operation::try_from(plan::size_of_word(word));
+        let op = Operation::try_from(plan::size_of_word(table[17 * i]));
         if op.is_ok_and(is_new) {
             return Edition::Second;
         }

@@ -1,16 +1,15 @@
 -- Numbers and words as they are written: one law for each way through a function.
 use Prim.Native.Nat.{ℕ, zero, suc, ◌+◌, ◌*◌, ◌-◌, ◌/◌, ◌%◌, ◌^◌, ◌<◌, ◌≤◌}
 use mathlib.Core.Path.{◌≡◌, refl, sym, ap, ◌∙◌}
-use mathlib.Core.Logic.{⊎_elim}
 use mathlib.Core.Bool.{Bool, true, false, cond}
 use mathlib.Core.List.{List, [], ◌∷◌, ◌++◌, append_assoc, append-nil}
-use native.Mathlib.Nat.{pow-succ', add-zero, add-suc, eq-or-lt_of_le}
+use native.Mathlib.Nat.{pow-succ', add-zero, add-suc}
 use native.Mathlib.Numerals.{add-one, sub-one}
 use native.Mathlib.Omega.{arith}
 use borrow.Author.Tests.{ltb-true, ltb-false}
-use lib.Dec.{ltb, eqb}
+use lib.Dec.{ltb}
 use lib.IntN.{ℤ, pos, negsuc, ◌-ℤ◌, nat_abs}
-use lib.ListN.{length, set, length-append}
+use lib.ListN.{length, get_or, set, length-append}
 use lib.Signed.{mag, lt_z}
 use mir.Syntax.{w64}
 use mir.Val.{SFits, Fits}
@@ -20,7 +19,8 @@ use Rattle.packing.specs.Bytes.{groups_of, bytes_of, packed_word}
 use Rattle.laws.specs.Pieces.{Writes}
 use Rattle.packing.specs.Writing.{word_bytes}
 use Rattle.packing.specs.Packing.{words_to, node_bytes}
-use Rattle.plan.specs.Operations.{uses, operation_count}
+use Rattle.plan.specs.Operations.{uses, masks, operation_count}
+use Rattle.plan.proofs.Masks.{mask_last}
 use Rattle.plan.specs.Words.{word_at, size_at}
 use Rattle.codec.proofs.Prefix.{used, few_used}
 use Rattle.packing.proofs.NumbersBack.{one_group, next_group}
@@ -147,6 +147,13 @@ word_room at n u h = rw u at h
 
 -- ---- a node's words
 
+-- no word after the last bit is used
+words_rest : (w : List ℤ) (op : ℕ) → op < operation_count → (k j : ℕ) → k + j ≤ 16 → get_or masks op 0 / 2 ^ k ≤ 1 → words_to op w (k + j) ≡ words_to op w k
+unfolding words_to
+words_rest w op known k zero l h = rw (add-zero k) refl
+words_rest w op known k (suc j) l h =
+    rw (add-suc k j, add-one, mask_last op k (suc (k + j)) known (omega arith) (omega arith) h, append-nil (words_to op w (k + j))) (words_rest w op known k j (omega arith) h)
+
 module _ (w : List ℤ) (op : ℕ) (known : op < operation_count) {before : List ℕ} {at : ℕ} where
   pub words_none : Writes (words_to op w 0) (5 * used op 0) before at before at
   unfolding words_to used
@@ -164,8 +171,10 @@ module _ (w : List ℤ) (op : ℕ) (known : op < operation_count) {before : List
         let v' : Writes (word_bytes (uses op (k + 1)) (word_at w (k + 1))) (5 * cond (uses op (k + 1)) 1 0) mid to _ _ = rw (is, e) at v in
         rw (add-one) (within (5 * (used op k + cond (uses op (k + 1)) 1 0)) (then so v') (omega arith))
 
-  pub words_done : {after : List ℕ} {next : ℕ} → Writes (words_to op w 16) (5 * used op 16) before at after next → Writes (words_to op w 16) 45 before at after next
-  words_done v = within 45 v (omega (arith, few_used op 16 known (omega arith)))
+  pub words_done : {k : ℕ} {after : List ℕ} {next : ℕ} → k ≤ 16 → get_or masks op 0 / 2 ^ k ≤ 1 → Writes (words_to op w k) (5 * used op k) before at after next → Writes (words_to op w 16) 45 before at after next
+  words_done {k} l h v =
+      let all : words_to op w k ≡ words_to op w 16 = sym (words_rest w op known k (16 - k) (omega arith) h) ∙ ap (words_to op w) (omega arith) in
+      said all (within 45 v (omega (arith, few_used op k known (omega arith))))
 
 -- the operation, of one byte, and then the words
 pub node_written : (w : List ℤ) (op : ℕ) {before mid after : List ℕ} {at place next : ℕ} → op < 128 → size_at w 0 ≡ op → Writes (groups_of 1 op) 1 before at mid place

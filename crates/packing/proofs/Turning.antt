@@ -3,19 +3,16 @@ use Prim.Native.Nat.{ℕ, suc, ◌+◌, ◌*◌, ◌/◌, ◌%◌, ◌<◌, ◌�
 use mathlib.Core.Path.{◌≡◌, refl, sym, ap, ◌∙◌}
 use mathlib.Core.Bool.{true, false, cond}
 use mathlib.Core.List.{List, ◌++◌}
-use native.Mathlib.Nat.{add-zero}
 use native.Mathlib.Numerals.{add-one}
 use native.Mathlib.Omega.{arith}
 use borrow.Author.Tests.{le-leb, lt-leb, leb-true, ne_eqb}
 use lib.Dec.{leb, eqb}
-use lib.IntN.{ℤ, pos}
-use lib.ListN.{length, get_or, take, drop, length-append}
+use lib.IntN.{ℤ}
+use lib.ListN.{length, take, drop, length-append}
 use lib.Seq.{sets-eq, take_at, length-take-le}
 use Rattle.laws.proofs.Booleans.{and_true}
-use Rattle.plan.specs.Operations.{masks}
-use Rattle.plan.specs.Words.{size_of, words_of, node_count, length_right}
+use Rattle.plan.specs.Words.{words_of, node_count, length_right}
 use Rattle.plan.specs.Answers.{Refusal, Outcome, accepted, refused, refuse, in_turn, answer_of, written, AllHold, FirstFailing}
-use Rattle.plan.proofs.Decoding.{word_at_lem}
 use Rattle.plan.proofs.Outcomes.{never_both, refused_same, turn_more, turn_stays, order_holds, order_fails}
 use Rattle.std.specs.Prelude.{Result, Ok, Err, IsErrAnd}
 use Rattle.plan.specs.declared.faults.Refusal.{Refusal as Refused}

@@ -1,5 +1,5 @@
 use mathlib.Core.Path.{sym, ◌∙◌}
-use Rattle.laws.proofs.Machine.{read_back_is, fit_at}
+use borrow.Author.Rules.{rules}
 use Rattle.codec.proofs.Editions.{none_begun, none_yet, new_found, new_is}
 use Rattle.codec.proofs.edition_of.Goals as goal
 
@@ -9,9 +9,9 @@ loop-i-init c = none_begun _
 pub returns-then-is_ok_and : goal.returns-then-is_ok_and
 returns-then-is_ok_and c =
     let new = new_is _ _ c.try_from-op.ensures c.is_ok_and.ensures in
-    new_found _ _ (read_back_is (fit_at _ c.word-1.given)) c.size_of_word.ensures _ c.loop-i-test.true (sym new ∙ c.if-is_ok_and.true)
+    new_found _ _ (search rules) c.size_of_word.ensures _ c.loop-i-test.true (sym new ∙ c.if-is_ok_and.true)
 
 pub loop-i-preserved : goal.loop-i-preserved
 loop-i-preserved c =
     let new = new_is _ _ c.try_from-op.ensures c.is_ok_and.ensures in
-    none_yet _ _ (read_back_is (fit_at _ c.word-1.given)) c.size_of_word.ensures c.loop-i.invariant (sym new ∙ c.if-is_ok_and.false)
+    none_yet _ _ (search rules) c.size_of_word.ensures c.loop-i.invariant (sym new ∙ c.if-is_ok_and.false)

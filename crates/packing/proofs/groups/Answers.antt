@@ -1,4 +1,4 @@
-use Prim.Native.Nat.{◌+◌, ◌-◌, ◌<◌}
+use Prim.Native.Nat.{◌+◌, ◌-◌}
 use mathlib.Core.Path.{◌≡◌, refl}
 use native.Mathlib.Omega.{arith}
 use Rattle.packing.proofs.Putting.{put_last, put_more, put_all}
@@ -11,7 +11,7 @@ pub loop-to-preserved : goal.loop-to-preserved
 loop-to-preserved c =
     let end = c.args.at + c.args.k in
     let left : end - (c.loop-to.to + 1) ≡ end - c.loop-to.to - 1 = omega arith in
-    (rw left (put_more c.loop-to.invariant.0 (omega arith) c.if-rest-lt128.false refl), c.loop-to.invariant.1)
+    (rw left (put_more c.loop-to.invariant.0 (omega arith) (omega arith) refl), c.loop-to.invariant.1)
 
 pub returns : goal.returns
 returns c =

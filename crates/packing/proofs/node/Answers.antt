@@ -1,6 +1,5 @@
 use native.Mathlib.Omega.{arith}
 use mathlib.Core.Path.{sym}
-use Rattle.laws.proofs.Pieces.{room_left}
 use Rattle.plan.proofs.Coded.{number_small}
 use Rattle.packing.proofs.Putting.{node_written}
 use Rattle.packing.proofs.node.Goals as goal
