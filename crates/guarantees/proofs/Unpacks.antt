@@ -20,7 +20,7 @@ use Rattle.plan.specs.Operations.{uses, in_file}
 use Rattle.plan.proofs.Outcomes.{never_both, accepted_same, refused_same, then_accepted, turn_more, turn_stays}
 use Rattle.codec.specs.Numbers.{Read, number_at, word_of}
 use Rattle.codec.specs.Plans.{Unpacked, with_word, read_word, header_of, edition_at, edition_of, read_node, add_node, unpack, unpack_answer, table_after}
-use Rattle.codec.proofs.Reading.{value_is, broken_is, Reached, reach_first, reach_next, reach_none, reach_end, reach_padded, reach_last}
+use Rattle.codec.proofs.Reading.{Reached, reach_first, reach_next, reach_none, reach_end, reach_padded, reach_last}
 use Rattle.codec.proofs.Bounds.{Holds, holds_map, holds_then, holds_turns}
 use Rattle.verifier.specs.Check.{verdict, Checked, unpack_check, code_of}
 use Rattle.guarantees.specs.Demand3.{word}
@@ -63,13 +63,13 @@ module _ (s : List ℕ) (at : ℕ) where
       let last : Reached s at (grouped s at m) (128 ^ m) (at + m) (5 - m) = reached m (omega (arith, w.few)) w.follow in
       let short : (eqb b 0 && ltb at (at + m)) ≡ false = not_true (λ e. let y = and_true (eqb b 0) (ltb at (at + m)) e in w.shortest (omega (arith, ltb-true at (at + m) y.1)) (eqb-true b 0 y.0)) in
       let group : b % 128 ≡ b = omega (arith, w.last) in
-      rw (w.value, w.after, group) (value_is (number_at s at) (reach_last s at last (omega (arith, w.few)) refl w.there w.last short) refl)
+      rw (w.value, w.after, group) (sym (reach_last s at last (omega (arith, w.few)) refl w.there w.last short))
 
   number_refuses : {r : Refusal} → NumberRefuses s at r → number_at s at ≡ refused r
-  number_refuses (bytes_end {m} h f e) = broken_is (number_at s at) (reach_end s at (reached m (omega arith) f) (omega arith) e) refl
-  number_refuses (too_long f) = broken_is (number_at s at) (reach_none s at (reached 5 (omega arith) f) (omega arith)) refl
+  number_refuses (bytes_end {m} h f e) = sym (reach_end s at (reached m (omega arith) f) (omega arith) e)
+  number_refuses (too_long f) = sym (reach_none s at (reached 5 (omega arith) f) (omega arith))
   number_refuses (padded {m} h l f t z) =
-      broken_is (number_at s at) (reach_padded s at (reached m (omega arith) f) (omega arith) refl t (omega arith) (and_true_of _ _ (eq-eqb _ 0 z) (lt-ltb at (at + m) (omega arith)))) refl
+      sym (reach_padded s at (reached m (omega arith) f) (omega arith) refl t z (omega arith))
 
   -- one of them is the case: m bytes are read, and k more may come
   number_holds : Holds (IsNumber s at) (NumberRefuses s at) (number_at s at)

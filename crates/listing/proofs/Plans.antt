@@ -9,12 +9,10 @@ use lib.ListN.{length, take}
 use lib.Seq.{sets, length-take-le}
 use Rattle.plan.specs.Words.{node_count}
 use Rattle.plan.specs.declared.faults.Refusal.{Refusal as Refused}
-use Rattle.plan.specs.Answers.{accepted, refuse}
+use Rattle.plan.specs.Answers.{Refusal, accepted, refused, refuse}
 use Rattle.plan.specs.Coded.{fault_number}
-use Rattle.codec.specs.declared.Plan.{Plan}
-use Rattle.codec.specs.declared.Plan.TheVariants.{Nodes, Stop}
 use Rattle.codec.specs.Plans.{unpack}
-use Rattle.codec.specs.Steps.{plan_of, Stands}
+use Rattle.codec.specs.Steps.{count_in, Stands}
 use Rattle.rules.specs.declared.Record.{Record}
 use Rattle.rules.specs.Code.{view_of}
 use Rattle.verifier.specs.declared.Derivation.{Derivation}
@@ -44,16 +42,16 @@ module _ (t : List ℤ) where
     in_table = omega (arith, as_many, counted t [] a, (accepted_meets t (records_of d) a.is_check).nodes.as_many)
 
 -- a plan that cannot be read, and one that was read into a table
-module _ (s : List ℕ) {r : Plan} (q : r ≡ plan_of (unpack s 4352)) where
-  pub stop_text : {n p : ℕ} → r ≡ Stop n p → text_of (refuse n p) ≡ text_of (unpack_check s)
+module _ (s : List ℕ) where
+  pub stop_text : {x : Refusal} → refused x ≡ count_in (unpack s 4352) → text_of (refused x) ≡ text_of (unpack_check s)
   unfolding unpack_check
-  stop_text e = rw (stop_is (unpack s 4352) q e) refl
+  stop_text q = rw (stop_is s q) refl
 
-  pub nodes_text : {v : ℕ} → r ≡ Nodes v → (before table : List ℤ) → length before ≡ 4352 → Stands (unpack s 4352) before 0 table
+  pub nodes_text : {v : ℕ} → accepted v ≡ count_in (unpack s 4352) → (before table : List ℤ) → length before ≡ 4352 → Stands (unpack s 4352) before 0 table
       → text_of (checked_of (take (17 * v - 0) table)) ≡ text_of (unpack_check s)
   unfolding unpack_check
-  nodes_text {v} e before table long h =
-      let k = words_are s q e before table long h in
+  nodes_text {v} q before table long h =
+      let k = words_are s q before table long h in
       let all : 17 * v - 0 ≡ 17 * v = omega arith in
       rw (all, k.2, k.1) refl
 

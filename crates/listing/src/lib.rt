@@ -13,7 +13,6 @@ ghost use Rattle.listing.specs.Text.{lines_of, checked_of, text_room, text_with}
 ghost use Rattle.listing.specs.Writing.{Puts};
 
 use bounds::Bounds;
-use codec::Plan;
 use rules::Record;
 use shapes::Shape;
 
@@ -202,8 +201,11 @@ impl Writer<'_> {
     {
         let mut table = [0i64; 4352];
         match codec::read_plan(bytes, &mut table) {
-            Plan::Stop(number, place) => self.refusal(number as u64, place as u64),
-            Plan::Nodes(count) => self.checked(&table[0..17 * count]),
+            Err(unread) => {
+                let answer = plan::Answer::from(Err(unread));
+                self.refusal(answer.number, answer.place);
+            }
+            Ok(count) => self.checked(&table[0..17 * count]),
         }
     }
 }

@@ -7,12 +7,11 @@ use native.Mathlib.Omega.{arith}
 use lib.IntN.{ℤ}
 use lib.ListN.{length, take}
 use lib.Seq.{sets, sets-eq, length-sets, take_at}
-use Rattle.plan.specs.Answers.{Outcome, accepted, refused, refuse, and_then}
+use Rattle.plan.specs.Answers.{Refusal, Outcome, accepted, refused, and_then}
+use Rattle.plan.proofs.Outcomes.{never_both, accepted_same, refused_same}
 use Rattle.plan.specs.declared.faults.Refusal.{Refusal as Refused}
-use Rattle.codec.specs.declared.Plan.{Plan}
-use Rattle.codec.specs.declared.Plan.TheVariants.{Nodes, Stop}
 use Rattle.codec.specs.Plans.{Unpacked, unpack}
-use Rattle.codec.specs.Steps.{plan_of, Stands}
+use Rattle.codec.specs.Steps.{count_in, Stands}
 use Rattle.codec.proofs.Limits.{unpack_count, unpack_place}
 use Rattle.verifier.specs.declared.Derivation.{Derivation}
 use Rattle.verifier.specs.Check.{verdict, unpack_check, code_of}
@@ -20,16 +19,13 @@ use Rattle.verifier.specs.Verdicts.{Ends, code_in}
 use Rattle.verifier.proofs.Ending.{counted}
 
 -- the outcome behind the reader's answer
-module _ {r : Plan} where
-  pub stop_is : (o : Outcome Unpacked) {n p : ℕ} → r ≡ plan_of o → r ≡ Stop n p → o ≡ refuse n p
-  unfolding plan_of
-  stop_is (refused s) {n} {p} q e = let a : s.number ≡ n = cc in let b : s.place ≡ p = cc in rw (← a, ← b)
-  stop_is (accepted u) q e = let z : ◌≡◌ {A = ℕ} 0 1 = cc in absurd (omega arith)
+stopped : (o : Outcome Unpacked) {x : Refusal} → refused x ≡ count_in o → o ≡ refused x
+stopped (refused s) e = ap refused (sym (refused_same e))
+stopped (accepted u) e = never_both (sym e)
 
-  found_is : (o : Outcome Unpacked) {v : ℕ} → r ≡ plan_of o → r ≡ Nodes v → (u : Unpacked) × (o ≡ accepted u) × (length u.words / 17 ≡ v)
-  unfolding plan_of
-  found_is (accepted u) q e = (u, refl, cc)
-  found_is (refused s) q e = let z : ◌≡◌ {A = ℕ} 0 1 = cc in absurd (omega arith)
+found : (o : Outcome Unpacked) {v : ℕ} → accepted v ≡ count_in o → (u : Unpacked) × (o ≡ accepted u) × (length u.words / 17 ≡ v)
+found (accepted u) e = (u, refl, sym (accepted_same e))
+found (refused s) e = never_both e
 
 -- the check of a table that was read
 module _ (t : List ℤ) where
@@ -37,24 +33,27 @@ module _ (t : List ℤ) where
   code_is (Ok d) a = rw a.is_check (counted t [] a)
   code_is (Err e) b = rw b.is_check refl
 
-module _ (s : List ℕ) {r : Plan} (q : r ≡ plan_of (unpack s 4352)) where
-  module _ {n p : ℕ} (e : r ≡ Stop n p) where
-    pub stop_small : (n ≤ 26) × (p ≤ length s)
-    stop_small = unpack_place s 4352 (stop_is (unpack s 4352) q e)
+module _ (s : List ℕ) where
+  module _ {x : Refusal} (q : refused x ≡ count_in (unpack s 4352)) where
+    pub stop_is : unpack s 4352 ≡ refused x
+    stop_is = stopped (unpack s 4352) q
 
-    pub stop_code : 65536 * n + p ≡ code_of (unpack_check s)
+    pub stop_place : x.place ≤ length s
+    stop_place = (unpack_place s 4352 stop_is).1
+
+    pub stop_code : 65536 * x.number + x.place ≡ code_of (unpack_check s)
     unfolding unpack_check
-    stop_code = rw (stop_is (unpack s 4352) q e) refl
+    stop_code = rw stop_is refl
 
-  module _ {v : ℕ} (e : r ≡ Nodes v) where
+  module _ {v : ℕ} (q : accepted v ≡ count_in (unpack s 4352)) where
     pub few_nodes : v ≤ 256
-    few_nodes = let f = found_is (unpack s 4352) q e in let k = unpack_count s 4352 f.1 in omega (arith, f.2, k.nodes, k.high)
+    few_nodes = let f = found (unpack s 4352) q in let k = unpack_count s 4352 f.1 in omega (arith, f.2, k.nodes, k.high)
 
     module _ (before table : List ℤ) (long : length before ≡ 4352) (h : Stands (unpack s 4352) before 0 table) where
       pub words_are : (u : Unpacked) × (unpack s 4352 ≡ accepted u) × (take (17 * v) table ≡ u.words)
       unfolding Stands
       words_are =
-          let f = found_is (unpack s 4352) q e in
+          let f = found (unpack s 4352) q in
           let u = f.0 in
           let k = unpack_count s 4352 f.1 in
           let stands : table ≡ sets before 0 u.words = rw f.1 at h in
@@ -64,7 +63,7 @@ module _ (s : List ℕ) {r : Plan} (q : r ≡ plan_of (unpack s 4352)) where
       pub room : 17 * v ≤ length table
       unfolding Stands
       room =
-          let f = found_is (unpack s 4352) q e in
+          let f = found (unpack s 4352) q in
           let stands : table ≡ sets before 0 f.0.words = rw f.1 at h in
           let same : length table ≡ length before = ap length stands ∙ length-sets before 0 f.0.words in
           omega (arith, same, long, few_nodes)

@@ -12,7 +12,6 @@ ghost use Rattle.rules.specs.Code.{view_of};
 ghost use Rattle.verifier.specs.Check.{derived_words, check, check_answer, derived_after, unpack_check, code_of};
 ghost use Rattle.verifier.specs.Verdicts.{Derives, Ends, code_in};
 
-use codec::Plan;
 use plan::{Fault, Node, NodeNumber, Refusal};
 use rules::{Record, Sources};
 
@@ -176,7 +175,7 @@ pub fn check(table: &[i64], derived: &mut [i64]) -> plan::Answer
 
 // The node count or, refused, 65536 times the number plus the place.
 fn code(r: Result<Derivation, Refusal>) -> u64
-    requires { MatchResult r (λ d. d.count ≤ 256) (λ e. e.place ≤ 256) }
+    requires { MatchResult r (λ d. d.count ≤ 256) (λ e. e.place < 9223372036854775808) }
     ensures { result ≡ code_in r }
 {
     match r {
@@ -191,7 +190,7 @@ pub fn unpack_check(bytes: &[u8]) -> u64
 {
     let mut table = [0i64; 4352];
     match codec::read_plan(bytes, &mut table) {
-        Plan::Stop(number, place) => 65536 * (number as u64) + (place as u64),
-        Plan::Nodes(count) => code(verdict(&table[0..17 * count])),
+        Err(refusal) => code(Err(refusal)),
+        Ok(count) => code(verdict(&table[0..17 * count])),
     }
 }
