@@ -1,19 +1,19 @@
 -- What the check has found of a node, for each group of operations.
 use Prim.Native.Nat.{ℕ, ◌≤◌, ◌<◌}
 use mathlib.Core.Path.{◌≡◌, refl, sym, ap, ◌∙◌}
-use mathlib.Core.Bool.{Bool, true, false, ◌&&◌, ◌||◌, false≢true}
+use mathlib.Core.Bool.{true, false, ◌&&◌, ◌||◌, false≢true}
 use mathlib.Core.List.{List, [], ◌∷◌}
 use native.Mathlib.Omega.{arith}
-use borrow.Author.Tests.{eqb-true, eqb-false, ne_eqb, ltb-true, leb-true, le-ltb, lt-leb}
-use lib.Dec.{eqb, leb, ltb}
+use borrow.Author.Tests.{eqb-true, eqb-false, le-ltb}
+use lib.Dec.{eqb, ltb}
 use lib.ListN.{length}
 use Rattle.laws.specs.Lists.{all_below, among}
 use Rattle.laws.specs.Numbering.{count}
 use Rattle.laws.proofs.Booleans.{bool_cases, and_true, all_below_lem}
 use Rattle.plan.specs.declared.Node.{Node}
-use Rattle.plan.specs.Operations.{CONST, PERMUTE, FLIP, RESHAPE, EXPAND, PAD, SHRINK, CAST, WHERE, REDUCE, LOAD, FILL, KNOWN, STACK, new_operations, followed, binaries, uses, is_new, is_operation, operation_count, by_operation}
+use Rattle.plan.specs.Operations.{CONST, PERMUTE, FLIP, RESHAPE, EXPAND, PAD, SHRINK, CAST, WHERE, REDUCE, LOAD, FILL, KNOWN, STACK, new_operations, followed, binaries, uses, is_new, by_operation}
 use Rattle.plan.specs.Words.{list_of, reads}
-use Rattle.plan.proofs.ByOperation.{◌then◌, for_group, only, operation_small, reads_low, reads_plain}
+use Rattle.plan.proofs.ByOperation.{◌then◌, for_group, reads_low, reads_plain}
 use Rattle.shapes.specs.Rows.{extents_of}
 use Rattle.shapes.specs.Rules.{shape_rules, shapes_agree, result_rules, result_extents}
 use Rattle.shapes.proofs.Broadcast.{Spreads, binary_spreads, where_spreads, fill_spreads}
@@ -26,32 +26,7 @@ use Rattle.evaluation.specs.Ready.{Proper, Right}
 
 -- ---- the groups by number
 
--- what is left of the operations
-others : all_below operation_count (λ (op : ℕ). eqb op 0 || (eqb op 1 || (eqb op 19 || ((leb 9 op && ltb op 19) || (leb 21 op || among op moves))))) ≡ true
-unfolding all_below among
-others = refl
-
-pub rest_moves : (op : ℕ) → is_operation op ≡ true → (op ≡ 0 → ⊥) → (op ≡ 1 → ⊥) → (op ≡ 19 → ⊥) → (leb 9 op && ltb op 19) ≡ false → op < 21 → among op moves ≡ true
-rest_moves op h a b c d e =
-    let all = all_below_lem operation_count (λ (op : ℕ). eqb op 0 || (eqb op 1 || (eqb op 19 || ((leb 9 op && ltb op 19) || (leb 21 op || among op moves))))) others op (operation_small op h) in
-    rw (ne_eqb op 0 a, ne_eqb op 1 b, ne_eqb op 19 c, d, lt-leb 21 op e) at all
-
--- the operations of the second edition
-newer : all_below operation_count (λ (op : ℕ). ltb op 21 || is_new op) ≡ true
-unfolding all_below is_new among
-newer = refl
-
-pub rest_new : (op : ℕ) → is_operation op ≡ true → 21 ≤ op → is_new op ≡ true
-rest_new op h l = rw (le-ltb op 21 l) at (all_below_lem operation_count (λ (op : ℕ). ltb op 21 || is_new op) newer op (operation_small op h))
-
-pub new_stack : (op : ℕ) → is_new op ≡ true → (op ≡ FILL → ⊥) → (op ≡ KNOWN → ⊥) → op ≡ STACK
-unfolding is_new among
-new_stack op h a b = only op STACK (rw (ne_eqb op FILL a, ne_eqb op KNOWN b) at h)
-
--- the binary operations, and WHERE after them
-pub mixed_range : (op : ℕ) → (leb 9 op && ltb op 19) ≡ true → (9 ≤ op) × (op < 19)
-mixed_range op e = let ends = and_true (leb 9 op) (ltb op 19) e in (leb-true 9 op ends.0, ltb-true op 19 ends.1)
-
+-- the binary operations
 between : all_below 18 (λ (op : ℕ). ltb op 9 || among op binaries) ≡ true
 unfolding all_below among
 between = refl
@@ -125,26 +100,6 @@ unfolding among
 followed_viewed op h =
     for_group (λ (op : ℕ). (op ≡ 6 → ⊥) → (eqb op 4 || eqb op 20) ≡ false → among op viewed ≡ true) op followed
     ((λ a b. refl) then (λ a b. refl) then (λ a b. absurd (false≢true (sym b))) then (λ a b. refl) then (λ a b. absurd (a refl)) then (λ a b. refl) then (λ a b. absurd (false≢true (sym b))) then tt) h
-
--- the three groups that move cells
-pub moves_viewed : (op : ℕ) → among op moves ≡ true → (op ≡ 6 → ⊥) → (eqb op 4 || (eqb op 8 || eqb op 20)) ≡ false → among op viewed ≡ true
-unfolding among
-moves_viewed op h a b = let rest = go (eqb op 4) (eqb op 8) (eqb op 20) (among op followed) h b in followed_viewed op rest.0 a rest.1
-  where
-    go : (a b c d : Bool) → (b || d) ≡ true → (a || (b || c)) ≡ false → (d ≡ true) × ((a || c) ≡ false)
-    go true b c d h e = absurd (false≢true (sym e))
-    go false true c d h e = absurd (false≢true (sym e))
-    go false false c d h e = (h, e)
-
-pub moves_copied : (op : ℕ) → (eqb op 4 || (eqb op 8 || eqb op 20)) ≡ true → among op copied ≡ true
-unfolding among
-moves_copied op h = go (eqb op 4) (eqb op 8) (eqb op 20) h
-  where
-    go : (a b c : Bool) → (a || (b || c)) ≡ true → (a || (b || (c || false))) ≡ true
-    go true b c e = refl
-    go false true c e = refl
-    go false false true e = refl
-    go false false false e = e
 
 -- a source that there is not
 pub proper_none : Proper []

@@ -10,7 +10,7 @@ ghost use Rattle.shapes.specs.Rules.{result_extents, gathered_extents};
 ghost use Rattle.shapes.specs.Shown.{shown};
 ghost use Rattle.views.specs.Views.{cells_of, reach};
 ghost use Rattle.moving.specs.Moved.{moved};
-ghost use Rattle.plan.specs.Operations.{WHERE, FILL, KNOWN, is_new};
+ghost use Rattle.plan.specs.Operations.{WHERE, FILL, KNOWN};
 ghost use Rattle.plan.specs.Words.{list_of, reads};
 ghost use Rattle.shapes.proofs.Broadcast.{Spreads};
 ghost use Rattle.shapes.proofs.Extents.{Positive};
@@ -22,7 +22,7 @@ ghost use Rattle.walking.specs.Alike.{Near};
 ghost use Rattle.evaluation.specs.Ready.{Proper, Right, Ready, Reads};
 ghost use Rattle.cells.specs.Nodes.{Operands};
 ghost use Rattle.walking.specs.Movements.{Viewed};
-ghost use Rattle.evaluation.specs.Standing.{Source, Evaluates, Room, Given, copied, moves, Padded, Reduced, Stacked};
+ghost use Rattle.evaluation.specs.Standing.{Source, Evaluates, Room, Given, copied, Padded, Reduced, Stacked};
 ghost use Rattle.evaluation.specs.Spread.{Spreading, Spread};
 
 use plan::{Node, Operation, Row};
@@ -222,23 +222,6 @@ fn eval_mixed(
     mix_cells(x.op, w, values, flags, start);
 }
 
-// Operations 2 to 8 and LOAD: one source.
-fn eval_moved(x: Node, r: Shape, a: Operand, values: &mut [i64], flags: &mut [u8], start: usize)
-    requires { (among x.op moves ≡ true) × Right x (shown a.shape) [] [] (shown r) × Room (shown r) start values.old flags.old × (a.base + count (shown a.shape) ≤ start) }
-    ensures { (o : Operands) → Source values.old flags.old a.base (shown a.shape) o.a → Evaluates x (shown r) o values.old flags.old start values.new flags.new }
-{
-    let op = x.op;
-    if op == 6 {
-        eval_padded(x, a.shape, r, a.base, values, flags, start);
-        return;
-    }
-    if (op == 4) | ((op == 8) | (op == 20)) {
-        eval_copied(x, a.shape, r, a.base, values, flags, start);
-        return;
-    }
-    eval_viewed(x, a.shape, r, a.base, values, flags, start);
-}
-
 // An extent that is gathered over; 1 along an axis that is kept.
 fn gathered_extent(flag: usize, n: usize) -> usize
     ensures { result ≡ cond (eqb flag 1) n 1 }
@@ -363,32 +346,6 @@ fn eval_stacked(
     copy_cells(n, d.base, values, flags, start + n + n);
 }
 
-// The operations of the second edition.
-fn eval_new(
-    x: Node,
-    r: Shape,
-    a: Operand,
-    b: Operand,
-    d: Operand,
-    values: &mut [i64],
-    flags: &mut [u8],
-    start: usize,
-)
-    requires { (is_new x.op ≡ true) × Right x (shown a.shape) (shown b.shape) (shown d.shape) (shown r) × Room (shown r) start values.old flags.old × (reads x 1 ≡ true → a.base + count (shown a.shape) ≤ start) × (reads x 2 ≡ true → b.base + count (shown b.shape) ≤ start) × (reads x 3 ≡ true → d.base + count (shown d.shape) ≤ start) }
-    ensures { (o : Operands) → (reads x 1 ≡ true → Source values.old flags.old a.base (shown a.shape) o.a) → (reads x 2 ≡ true → Source values.old flags.old b.base (shown b.shape) o.b) → (reads x 3 ≡ true → Source values.old flags.old d.base (shown d.shape) o.c) → Evaluates x (shown r) o values.old flags.old start values.new flags.new }
-{
-    let op = x.op;
-    if op == 21 {
-        eval_filled(x, r, a, b, values, flags, start);
-        return;
-    }
-    if op == 22 {
-        eval_known(x, r, a.base, values, flags, start);
-        return;
-    }
-    eval_stacked(x, r, a, b, d, values, flags, start);
-}
-
 // The cells of a node of shape r.
 pub fn eval_node(
     x: Node,
@@ -406,26 +363,32 @@ pub fn eval_node(
     requires { Ready x (shown a.shape) (shown b.shape) (shown d.shape) (shown r) a.base b.base d.base from start given.now known.now values.old flags.old }
     ensures { (o : Operands) → Reads x (shown a.shape) (shown b.shape) (shown d.shape) (shown r) a.base b.base d.base from given.now known.now values.old flags.old o → Evaluates x (shown r) o values.old flags.old start values.new flags.new }
 {
-    let op = x.op;
-    if op == 0 {
-        eval_const(x, r, values, flags, start);
+    let Ok(op) = Operation::try_from(x.op) else {
         return;
+    };
+    match op {
+        Operation::Const => eval_const(x, r, values, flags, start),
+        Operation::Param => eval_param(x, r, given, known, from, values, flags, start),
+        Operation::Pad => eval_padded(x, a.shape, r, a.base, values, flags, start),
+        Operation::Reshape | Operation::Cast | Operation::Load => {
+            eval_copied(x, a.shape, r, a.base, values, flags, start)
+        }
+        Operation::Permute | Operation::Flip | Operation::Expand | Operation::Shrink => {
+            eval_viewed(x, a.shape, r, a.base, values, flags, start)
+        }
+        Operation::Reduce => eval_reduced(x, a.shape, r, a.base, values, flags, start),
+        Operation::Fill => eval_filled(x, r, a, b, values, flags, start),
+        Operation::Known => eval_known(x, r, a.base, values, flags, start),
+        Operation::Stack => eval_stacked(x, r, a, b, d, values, flags, start),
+        Operation::Add
+        | Operation::Mul
+        | Operation::Max
+        | Operation::Idiv
+        | Operation::Mod
+        | Operation::CmpLt
+        | Operation::CmpNe
+        | Operation::And
+        | Operation::Or
+        | Operation::Where => eval_mixed(x, r, a, b, d, values, flags, start),
     }
-    if op == 1 {
-        eval_param(x, r, given, known, from, values, flags, start);
-        return;
-    }
-    if op == 19 {
-        eval_reduced(x, a.shape, r, a.base, values, flags, start);
-        return;
-    }
-    if (9 <= op) & (op < 19) {
-        eval_mixed(x, r, a, b, d, values, flags, start);
-        return;
-    }
-    if 21 <= op {
-        eval_new(x, r, a, b, d, values, flags, start);
-        return;
-    }
-    eval_moved(x, r, a, values, flags, start);
 }
