@@ -11,6 +11,7 @@ ghost use Rattle.shapes.specs.Shown.{shown};
 ghost use Rattle.views.specs.Views.{cells_of, reach};
 ghost use Rattle.moving.specs.Moved.{moved};
 ghost use Rattle.plan.specs.Operations.{WHERE, FILL, KNOWN};
+ghost use Rattle.plan.specs.Coded.{number_of};
 ghost use Rattle.plan.specs.Words.{list_of, reads};
 ghost use Rattle.shapes.proofs.Broadcast.{Spreads};
 ghost use Rattle.shapes.proofs.Extents.{Positive};
@@ -168,15 +169,13 @@ fn operand_view(a: Operand) -> View
 }
 
 // The cells of three views, mixed.
-fn mix_cells(op: usize, w: Walk, values: &mut [i64], flags: &mut [u8], start: usize)
-    requires { (9 ≤ op) × (op < 19) × Near w start × (0 < cells_of w.grid) × (start + cells_of w.grid ≤ length values.old) × (start + cells_of w.grid ≤ length flags.old) × SmallSeen values.old w.grid w.a × SmallSeen values.old w.grid w.b }
-    ensures { (values.new ≡ mixed_values op values.old flags.old w.grid w.a w.b w.d start) × (flags.new ≡ mixed_flags op values.old flags.old w.grid w.a w.b w.d start) }
+fn mix_cells(op: Operation, w: Walk, values: &mut [i64], flags: &mut [u8], start: usize)
+    requires { (9 ≤ number_of op) × (number_of op < 19) × Near w start × (0 < cells_of w.grid) × (start + cells_of w.grid ≤ length values.old) × (start + cells_of w.grid ≤ length flags.old) × SmallSeen values.old w.grid w.a × SmallSeen values.old w.grid w.b }
+    ensures { (values.new ≡ mixed_values (number_of op) values.old flags.old w.grid w.a w.b w.d start) × (flags.new ≡ mixed_flags (number_of op) values.old flags.old w.grid w.a w.b w.d start) }
 {
     let t = walking::settle(w);
     let rows = walking::rows(t.grid);
-    if let Ok(op) = Operation::try_from(op) {
-        elementwise::mix(values, flags, op, t.grid, t.a, t.b, t.d, rows, start);
-    }
+    elementwise::mix(values, flags, op, t.grid, t.a, t.b, t.d, rows, start);
 }
 
 // The views of the sources of a binary operation or WHERE, over the grid of its result; a binary operation has its second twice.
@@ -187,7 +186,7 @@ fn mixed_walk(x: Node, r: Shape, a: Operand, b: Operand, d: Operand) -> Walk
     let grid = views::grid(r);
     let va = operand_view(a);
     let vb = operand_view(b);
-    if x.op == 18 {
+    if x.op == Operation::Where as usize {
         let vd = operand_view(d);
         return Walk {
             grid: grid,
@@ -206,6 +205,7 @@ fn mixed_walk(x: Node, r: Shape, a: Operand, b: Operand, d: Operand) -> Walk
 
 // ADD to OR, and WHERE.
 fn eval_mixed(
+    op: Operation,
     x: Node,
     r: Shape,
     a: Operand,
@@ -215,11 +215,11 @@ fn eval_mixed(
     flags: &mut [u8],
     start: usize,
 )
-    requires { (9 ≤ x.op) × (x.op < 19) × Right x (shown a.shape) (shown b.shape) (shown d.shape) (shown r) × Room (shown r) start values.old flags.old × SmallIn values.old a.base (a.base + count (shown a.shape)) × SmallIn values.old b.base (b.base + count (shown b.shape)) × (a.base + count (shown a.shape) ≤ start) × (b.base + count (shown b.shape) ≤ start) × (x.op ≡ WHERE → d.base + count (shown d.shape) ≤ start) }
+    requires { (number_of op ≡ x.op) × (9 ≤ x.op) × (x.op < 19) × Right x (shown a.shape) (shown b.shape) (shown d.shape) (shown r) × Room (shown r) start values.old flags.old × SmallIn values.old a.base (a.base + count (shown a.shape)) × SmallIn values.old b.base (b.base + count (shown b.shape)) × (a.base + count (shown a.shape) ≤ start) × (b.base + count (shown b.shape) ≤ start) × (x.op ≡ WHERE → d.base + count (shown d.shape) ≤ start) }
     ensures { (o : Operands) → Source values.old flags.old a.base (shown a.shape) o.a → Source values.old flags.old b.base (shown b.shape) o.b → (x.op ≡ WHERE → Source values.old flags.old d.base (shown d.shape) o.c) → Evaluates x (shown r) o values.old flags.old start values.new flags.new }
 {
     let w = mixed_walk(x, r, a, b, d);
-    mix_cells(x.op, w, values, flags, start);
+    mix_cells(op, w, values, flags, start);
 }
 
 // An extent that is gathered over; 1 along an axis that is kept.
@@ -389,6 +389,6 @@ pub fn eval_node(
         | Operation::CmpNe
         | Operation::And
         | Operation::Or
-        | Operation::Where => eval_mixed(x, r, a, b, d, values, flags, start),
+        | Operation::Where => eval_mixed(op, x, r, a, b, d, values, flags, start),
     }
 }

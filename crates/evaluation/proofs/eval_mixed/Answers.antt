@@ -9,10 +9,10 @@ mix_cells-requires c =
     let p = c.requires in
     let w = c.mixed_walk-w.ensures in
     let cells = w.first.cells in
-    let room = p.3 in
-    (p.0, p.1, spread_near w p.6 p.7 p.8, omega (arith, cells, room.some), omega (arith, cells, room.values), omega (arith, cells, room.flags), spread_small a.values.now (shown a.a.shape) (shown a.r) w.first p.4, spread_small a.values.now (shown a.b.shape) (shown a.r) w.second p.5)
+    let room = p.4 in
+    (omega (arith, p.0, p.1), omega (arith, p.0, p.2), spread_near w p.7 p.8 p.9, omega (arith, cells, room.some), omega (arith, cells, room.values), omega (arith, cells, room.flags), spread_small a.values.now (shown a.a.shape) (shown a.r) w.first p.5, spread_small a.values.now (shown a.b.shape) (shown a.r) w.second p.6)
 
 pub returns : goal.returns
 returns c =
     let w = c.mixed_walk-w.ensures in
-    λ o first second third. mixed_evaluates c.args.x o _ _ c.args.start c.requires.0 c.requires.1 w first second third c.mix_cells.ensures
+    λ o first second third. mixed_evaluates c.args.x o _ _ c.args.start c.requires.1 c.requires.2 w first second third (rw c.requires.0 at c.mix_cells.ensures)

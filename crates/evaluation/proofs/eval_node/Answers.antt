@@ -151,7 +151,7 @@ eval_mixed-requires c =
     let low : 9 ≤ x.op = grind arith in
     let high : x.op < 19 = grind arith in
     let e = mixed_reads x low high in
-    (low, high, q.right, q.room, q.small_first e.0, q.small_second e.1, q.first e.0, q.second e.1, λ w. q.third (where_reads x w))
+    (c.in-Ok.ensures, low, high, q.right, q.room, q.small_first e.0, q.small_second e.1, q.first e.0, q.second e.1, λ w. q.third (where_reads x w))
 
 pub returns-in-Add : goal.returns-in-Add
 returns-in-Add c =

@@ -1,9 +1,5 @@
-use mathlib.Core.Path.{◌≡◌}
-use mathlib.Core.Bool.{false}
 use native.Mathlib.Omega.{arith}
-use borrow.Author.Tests.{ltb-false}
 use Rattle.plan.specs.Coded.{number_of}
-use Rattle.plan.specs.Operations.{is_operation}
 use Rattle.evaluation.proofs.Mixed.{mixed_both, seen_alike}
 use Rattle.evaluation.proofs.mix_cells.Goals as goal
 
@@ -18,19 +14,10 @@ mix-requires c =
     let w = c.settle-t.ensures in
     let n = c.rows-rows.ensures in
     let near = c.requires.2 in
-    let e : number_of c.in-Ok.op ≡ c.args.op = c.in-Ok.ensures in
-    ((omega (arith, e, c.requires.0), omega (arith, e, c.requires.1)), n, omega (arith, w.a.far, near.a), omega (arith, w.b.far, near.b), omega (arith, w.d.far, near.d), rw n (omega (arith, w.cells, c.requires.4)), rw n (omega (arith, w.cells, c.requires.5)), seen_alike c.args.values.now w.cells w.a c.requires.6, seen_alike c.args.values.now w.cells w.b c.requires.7)
+    ((c.requires.0, c.requires.1), n, omega (arith, w.a.far, near.a), omega (arith, w.b.far, near.b), omega (arith, w.d.far, near.d), rw n (omega (arith, w.cells, c.requires.4)), rw n (omega (arith, w.cells, c.requires.5)), seen_alike c.args.values.now w.cells w.a c.requires.6, seen_alike c.args.values.now w.cells w.b c.requires.7)
 
-pub returns-in-Ok : goal.returns-in-Ok
-returns-in-Ok c =
+pub returns : goal.returns
+returns c =
     let t = c.settle-t in
     let a = c.args in
-    let e : number_of c.in-Ok.op ≡ a.op = c.in-Ok.ensures in
-    mixed_both a.op a.values.now a.flags.now a.w t.result a.start t.ensures (rw e at c.mix.ensures)
-
--- an operation from 9 to 18 has its type
-pub returns-in_default : goal.returns-in_default
-unfolding is_operation
-returns-in_default c =
-    let f : is_operation c.args.op ≡ false = c.in_default.ensures.1 in
-    absurd (omega (arith, ltb-false _ _ f, c.requires.1))
+    mixed_both (number_of a.op) a.values.now a.flags.now a.w t.result a.start t.ensures c.mix.ensures

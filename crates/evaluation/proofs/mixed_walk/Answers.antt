@@ -2,12 +2,12 @@ use mathlib.Core.Path.{refl}
 use Rattle.evaluation.proofs.Groups.{mixed_spreads}
 use Rattle.evaluation.proofs.mixed_walk.Goals as goal
 
-pub returns-then-x-eq18 : goal.returns-then-x-eq18
-returns-then-x-eq18 c =
+pub returns-then-x : goal.returns-then-x
+returns-then-x c =
     let g = c.grid-grid in
     let right = c.requires.2 in
     let all = mixed_spreads c.args.x _ _ _ _ right c.requires.0 c.requires.1 in
-    let q = c.if-x-eq18.true in
+    let q = c.if-x.true in
     record {
       first = c.operand_view-va.ensures _ g.result g.ensures right.whole.positive all.0;
       second = c.operand_view-vb.ensures _ g.result g.ensures right.whole.positive all.1;
@@ -23,6 +23,6 @@ returns c =
     record {
       first = c.operand_view-va.ensures _ g.result g.ensures right.whole.positive all.0;
       second = c.operand_view-vb.ensures _ g.result g.ensures right.whole.positive all.1;
-      third = λ q. absurd (c.if-x-eq18.false q);
+      third = λ q. absurd (c.if-x.false q);
       twice = λ _. refl;
     }
