@@ -3,4 +3,4 @@ pub mod Sound
 pub mod Facts
 pub mod Readback
 pub mod Floors
-pub mod ByRange
+pub mod Gathering

@@ -11,8 +11,8 @@ ghost use Rattle.bounds.specs.Narrow.{wide_of, Held, Narrow, Result};
 
 use plan::{Instruction, Interval, Operation};
 
-// Bounds that lie in a type.
-#[derive(Clone, Copy)]
+// Bounds that lie in a type, in 32 bits: a record is kept for each node, and what is computed needs Interval's 64.
+#[derive(Clone, Copy, Debug, PartialEq, Eq)]
 pub struct Bounds {
     pub low: i32,
     pub high: i32,
@@ -157,7 +157,7 @@ pub fn mod_bounds(y: Interval) -> Interval
     }
 }
 
-// A sum: low with low, high with high.
+// A sum: low with low, high with high. It and the next three differ in what they call for each end: a function of two closures would have a call as long as each.
 pub fn add_bounds(x: Interval, y: Interval) -> Interval
     requires { (Held x) × (Held y) }
     ensures { result ≡ add_bounds x y }
@@ -249,12 +249,14 @@ pub fn in_type(t: usize, x: Interval) -> bool
 }
 
 // An interval as 64-bit numbers.
-pub fn wide(b: Bounds) -> Interval
-    ensures { (result ≡ wide_of b) × (Held result) }
-{
-    Interval {
-        low: b.low as i64,
-        high: b.high as i64,
+impl From<Bounds> for Interval {
+    ghost from_gives = { λ b r. (r ≡ wide_of b) × (Held r) };
+
+    fn from(b: Bounds) -> Interval {
+        Interval {
+            low: b.low as i64,
+            high: b.high as i64,
+        }
     }
 }
 

@@ -13,6 +13,7 @@ ghost use Rattle.listing.specs.Text.{lines_of, checked_of, text_room, text_with}
 ghost use Rattle.listing.specs.Writing.{Puts};
 
 use bounds::Bounds;
+use plan::Interval;
 use rules::Record;
 use shapes::Shape;
 
@@ -96,7 +97,7 @@ impl Writer<'_> {
         requires { self.old.at + 44 ≤ length self.old.text.now }
         ensures { Puts (space ∷ signed (wide_of b).low ++ space ∷ signed (wide_of b).high) 44 self.old self.new }
     {
-        let wide = bounds::wide(b);
+        let wide = Interval::from(b);
         let low = wide.low;
         let high = wide.high;
         self.put(b' ');

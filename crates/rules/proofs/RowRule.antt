@@ -64,10 +64,6 @@ module _ (x : Node) (params rank : ℕ) where
   unfolding rows_right stack_number among
   rows_stack l k e = let q : x.op ≡ 23 = omega (arith, operation_small x.op k) in rw (q, e) refl
 
--- what is left after 0 to 3
-pub left_of_four : {op : ℕ} → (op ≡ 0 → ⊥) → (op ≡ 1 → ⊥) → (op ≡ 2 → ⊥) → (op ≡ 3 → ⊥) → 4 ≤ op
-left_of_four a b c d = omega arith
-
 -- rule 7 of a PERMUTE
 pub permute_rule : (x : Node) (params rank : ℕ) → rows_right x params rank ≡ true → x.op ≡ PERMUTE → is_permutation rank (list_of x.rowa) ≡ true
 unfolding rows_right among

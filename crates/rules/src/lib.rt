@@ -140,7 +140,7 @@ fn type_named(x: Instruction) -> bool
     !plan::uses_word(plan::used_mask(x.op.number()), 4) | (x.node.dtype <= 3)
 }
 
-// What is derived of a node.
+// What is derived of a node. Its type is the number 0..3 of the tables, which the listing and the check's words write as it is.
 #[derive(Clone, Copy)]
 pub struct Record {
     pub dtype: u8,
@@ -312,13 +312,13 @@ fn value_node(
     if !devices_agree(a.device, b.device, c.device) {
         return Err(Fault::Devices);
     }
-    let divisor = bounds::wide(b.bounds);
+    let divisor = Interval::from(b.bounds);
     if !divisor_right(x.op, divisor) {
         return Err(Fault::ZeroDivisor);
     }
     let gathered = gathers(x, a.extents);
-    let first = bounds::wide(a.bounds);
-    let third = bounds::wide(c.bounds);
+    let first = Interval::from(a.bounds);
+    let third = Interval::from(c.bounds);
     let range = bounds::result_bounds(x, gathered, first, divisor, third);
     let dtype = result_type(x, a.dtype, b.dtype);
     if !bounds::in_type(dtype, range) {

@@ -10,7 +10,7 @@ ghost use Rattle.shapes.specs.Shown.{words_in, shown, Narrow};
 
 use plan::Row;
 
-// The extents of a node: the words before the first zero.
+// The extents of a node: the words before the first zero. Four words by name, as a row's: the definitions (`words_in`, `list_of`) speak of each.
 #[derive(Clone, Copy, Debug, PartialEq, Eq)]
 pub struct Shape {
     pub n0: u32,
@@ -74,7 +74,7 @@ pub fn rank(s: Shape) -> usize
     rank_of(Row::from(s))
 }
 
-// The words of a row as a shape.
+// The words of a row as a shape. No TryFrom: the rules have found that they fit, and a refusal here would never be given.
 pub fn narrow(row: Row) -> Shape
     requires { Narrow row }
     ensures { words_in result ≡ list_of row }

@@ -12,7 +12,7 @@ ghost use Rattle.rules.specs.Code.{view_of};
 ghost use Rattle.verifier.specs.Check.{derived_words, check, check_answer, derived_after, unpack_check, code_of};
 ghost use Rattle.verifier.specs.Verdicts.{Derives, Ends, code_in};
 
-use plan::{Fault, Node, NodeNumber, Refusal};
+use plan::{Fault, Interval, Node, NodeNumber, Refusal};
 use rules::{Record, Sources};
 
 // Rule 12: all nodes together have at most so many elements.
@@ -131,7 +131,7 @@ fn write_record(r: Record, derived: &mut [i64], at: usize)
     let n1 = after(n0, r.extents.n1);
     let n2 = after(n1, r.extents.n2);
     let n3 = after(n2, r.extents.n3);
-    let ends = bounds::wide(r.bounds);
+    let ends = Interval::from(r.bounds);
     derived[at..at + 8].copy_from_slice(&[
         r.dtype as i64,
         r.device as i64,

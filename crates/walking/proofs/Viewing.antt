@@ -14,7 +14,6 @@ use Rattle.plan.specs.declared.Node.{Node}
 use Rattle.plan.specs.declared.Row.{Row}
 use Rattle.plan.specs.Operations.{PERMUTE, FLIP, EXPAND, SHRINK}
 use Rattle.plan.specs.Words.{list_of}
-use Rattle.plan.proofs.ByOperation.{◌then◌, for_group}
 use Rattle.shapes.specs.Rows.{extents_of, row_of, is_permutation}
 use Rattle.shapes.specs.Rules.{extent, word_of, same_rank, shapes_agree, result_extents}
 use Rattle.shapes.proofs.Extents.{extents_positive, extents_length}
@@ -29,7 +28,7 @@ use Rattle.views.proofs.Fronts.{grid_rank, grid_extents, words_in_front, same_ra
 use Rattle.views.proofs.Walking.{expand_walks}
 use Rattle.views.proofs.Moving.{flip_walks, shrink_walks}
 use Rattle.views.proofs.Permuting.{permute_walks}
-use Rattle.walking.specs.Movements.{viewed, viewed_from, Viewed}
+use Rattle.walking.specs.Movements.{viewed_from, Viewed}
 
 -- what a view has to walk over
 abbrev Walked : Node → List ℕ → ℕ → View → List ℕ → Type 0
@@ -121,9 +120,3 @@ module _ (x : Node) (s : List ℕ) (S : Row) (base : ℕ) (v : Viewed x s) (unde
         let r = extents_of (list_of x.rowa) in
         let o = words_in_front (length s) x.rowb O (grid_rank s S under) offsets in
         rw op (λ R over. shrink_walks s r S R O x.rowb base under over o (extents_positive (list_of x.rowa)) shrink_rule)
-
--- the last of the four
-pub last_viewed : (op : ℕ) → among op viewed ≡ true → (op ≡ 2 → ⊥) → (op ≡ 3 → ⊥) → (op ≡ 5 → ⊥) → op ≡ SHRINK
-last_viewed op m a b c =
-    for_group (λ (op : ℕ). (op ≡ 2 → ⊥) → (op ≡ 3 → ⊥) → (op ≡ 5 → ⊥) → op ≡ SHRINK) op viewed
-    ((λ a b c. absurd (a refl)) then (λ a b c. absurd (b refl)) then (λ a b c. absurd (c refl)) then (λ a b c. refl) then tt) m a b c

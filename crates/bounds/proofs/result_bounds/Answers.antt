@@ -7,7 +7,7 @@ use Rattle.laws.specs.Lists.{among}
 use Rattle.laws.proofs.Machine.{read_back_is}
 use Rattle.plan.proofs.Coded.{number_is}
 use Rattle.bounds.specs.Rules.{result_bounds}
-use Rattle.bounds.proofs.ByRange.{bounds_reduce, bounds_stack}
+use Rattle.bounds.proofs.Gathering.{bounds_reduce, bounds_stack}
 use Rattle.bounds.proofs.result_bounds.Goals as goal
 
 pub returns-in-Add : goal.returns-in-Add

@@ -1,4 +1,4 @@
-use Rattle.bounds.proofs.ByRange.{stack_three, stack_two}
+use Rattle.bounds.proofs.Gathering.{stack_three, stack_two}
 use Rattle.bounds.proofs.stack_bounds.Goals as goal
 
 pub returns-then-third : goal.returns-then-third

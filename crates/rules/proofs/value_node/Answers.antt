@@ -18,20 +18,20 @@ pub returns-then-not-devices_agree : goal.returns-then-not-devices_agree
 returns-then-not-devices_agree c = breaks_9 c.args.x.node (view_of c.args.sources.first) (view_of c.args.sources.second) (view_of c.args.sources.third) _ c.devices_agree.ensures (ap not c.if-not-devices_agree.true)
 
 pub returns-then-not-divisor_right : goal.returns-then-not-divisor_right
-returns-then-not-divisor_right c = breaks_10 c.args.x.node (view_of c.args.sources.first) (view_of c.args.sources.second) (view_of c.args.sources.third) _ c.devices_agree.ensures (ap not c.if-not-devices_agree.false) _ (divisor_of c.args.x c.divisor_right.ensures c.wide-divisor.ensures.0) (ap not c.if-not-divisor_right.true)
+returns-then-not-divisor_right c = breaks_10 c.args.x.node (view_of c.args.sources.first) (view_of c.args.sources.second) (view_of c.args.sources.third) _ c.devices_agree.ensures (ap not c.if-not-devices_agree.false) _ (divisor_of c.args.x c.divisor_right.ensures c.from-divisor.ensures.0) (ap not c.if-not-divisor_right.true)
 
 pub returns-then-not-in_type : goal.returns-then-not-in_type
 returns-then-not-in_type c =
-    breaks_11 c.args.x.node (view_of c.args.sources.first) (view_of c.args.sources.second) (view_of c.args.sources.third) _ c.devices_agree.ensures (ap not c.if-not-devices_agree.false) _ (divisor_of c.args.x c.divisor_right.ensures c.wide-divisor.ensures.0)
+    breaks_11 c.args.x.node (view_of c.args.sources.first) (view_of c.args.sources.second) (view_of c.args.sources.third) _ c.devices_agree.ensures (ap not c.if-not-devices_agree.false) _ (divisor_of c.args.x c.divisor_right.ensures c.from-divisor.ensures.0)
     (ap not c.if-not-divisor_right.false) _ _ c.result_type-dtype.ensures.is_type
-    (bounds_of c.args.x.node (shown c.args.sources.first.extents) (c.result_bounds-range.ensures (shown c.args.sources.first.extents) c.gathers-gathered.ensures.all) c.wide-first.ensures.0 c.wide-divisor.ensures.0 c.wide-third.ensures.0)
+    (bounds_of c.args.x.node (shown c.args.sources.first.extents) (c.result_bounds-range.ensures (shown c.args.sources.first.extents) c.gathers-gathered.ensures.all) c.from-first.ensures.0 c.from-divisor.ensures.0 c.from-third.ensures.0)
     _ c.in_type.ensures (ap not c.if-not-in_type.true)
 
 pub narrow-requires : goal.narrow-requires
 narrow-requires c =
-    range_narrow _ _ (range_held c.args.x.node (view_of c.args.sources.first) (view_of c.args.sources.second) (view_of c.args.sources.third) _ c.devices_agree.ensures (ap not c.if-not-devices_agree.false) _ (divisor_of c.args.x c.divisor_right.ensures c.wide-divisor.ensures.0)
+    range_narrow _ _ (range_held c.args.x.node (view_of c.args.sources.first) (view_of c.args.sources.second) (view_of c.args.sources.third) _ c.devices_agree.ensures (ap not c.if-not-devices_agree.false) _ (divisor_of c.args.x c.divisor_right.ensures c.from-divisor.ensures.0)
     (ap not c.if-not-divisor_right.false) _ _ c.result_type-dtype.ensures.is_type
-    (bounds_of c.args.x.node (shown c.args.sources.first.extents) (c.result_bounds-range.ensures (shown c.args.sources.first.extents) c.gathers-gathered.ensures.all) c.wide-first.ensures.0 c.wide-divisor.ensures.0 c.wide-third.ensures.0)
+    (bounds_of c.args.x.node (shown c.args.sources.first.extents) (c.result_bounds-range.ensures (shown c.args.sources.first.extents) c.gathers-gathered.ensures.all) c.from-first.ensures.0 c.from-divisor.ensures.0 c.from-third.ensures.0)
     _ c.in_type.ensures (ap not c.if-not-in_type.false))
 
 pub overflow_cast-result : goal.overflow_cast-result
@@ -42,9 +42,9 @@ overflow_cast-result-2 c = record { fits = c.result_device-device.ensures.byte _
 
 pub returns : goal.returns
 returns c = (
-  values_hold c.args.x.node (view_of c.args.sources.first) (view_of c.args.sources.second) (view_of c.args.sources.third) _ c.devices_agree.ensures (ap not c.if-not-devices_agree.false) _ (divisor_of c.args.x c.divisor_right.ensures c.wide-divisor.ensures.0)
+  values_hold c.args.x.node (view_of c.args.sources.first) (view_of c.args.sources.second) (view_of c.args.sources.third) _ c.devices_agree.ensures (ap not c.if-not-devices_agree.false) _ (divisor_of c.args.x c.divisor_right.ensures c.from-divisor.ensures.0)
       (ap not c.if-not-divisor_right.false) _ _ c.result_type-dtype.ensures.is_type
-      (bounds_of c.args.x.node (shown c.args.sources.first.extents) (c.result_bounds-range.ensures (shown c.args.sources.first.extents) c.gathers-gathered.ensures.all) c.wide-first.ensures.0 c.wide-divisor.ensures.0 c.wide-third.ensures.0)
+      (bounds_of c.args.x.node (shown c.args.sources.first.extents) (c.result_bounds-range.ensures (shown c.args.sources.first.extents) c.gathers-gathered.ensures.all) c.from-first.ensures.0 c.from-divisor.ensures.0 c.from-third.ensures.0)
       _ c.in_type.ensures (ap not c.if-not-in_type.false),
-  derived_parts c.args.x.node (view_of c.args.sources.first) (view_of c.args.sources.second) (view_of c.args.sources.third) c.result_type-dtype.ensures.is_type c.result_device-device.ensures.is_device (c.narrow.ensures ∙ (bounds_of c.args.x.node (shown c.args.sources.first.extents) (c.result_bounds-range.ensures (shown c.args.sources.first.extents) c.gathers-gathered.ensures.all) c.wide-first.ensures.0 c.wide-divisor.ensures.0 c.wide-third.ensures.0)) c.requires.shape,
+  derived_parts c.args.x.node (view_of c.args.sources.first) (view_of c.args.sources.second) (view_of c.args.sources.third) c.result_type-dtype.ensures.is_type c.result_device-device.ensures.is_device (c.narrow.ensures ∙ (bounds_of c.args.x.node (shown c.args.sources.first.extents) (c.result_bounds-range.ensures (shown c.args.sources.first.extents) c.gathers-gathered.ensures.all) c.from-first.ensures.0 c.from-divisor.ensures.0 c.from-third.ensures.0)) c.requires.shape,
 )

@@ -8,4 +8,4 @@ pub returns : goal.returns
 returns c =
     part_written c.args.at c.args.derived.now c.copy_from_slice.ensures.after refl (search rules)
     ∙ ap (sets c.args.derived.now c.args.at)
-    (eight_words c.args.r c.after-n1.ensures c.after-n2.ensures c.after-n3.ensures (word_is (search rules)) (word_is (search rules)) (low_is c.wide-ends.ensures.0 c.wide-ends.ensures.1) (high_is c.wide-ends.ensures.0 c.wide-ends.ensures.1) (word_is (search rules)) (word_is (search rules)) (word_is (search rules)) (word_is (search rules)))
+    (eight_words c.args.r c.after-n1.ensures c.after-n2.ensures c.after-n3.ensures (word_is (search rules)) (word_is (search rules)) (low_is c.from-ends.ensures.0 c.from-ends.ensures.1) (high_is c.from-ends.ensures.0 c.from-ends.ensures.1) (word_is (search rules)) (word_is (search rules)) (word_is (search rules)) (word_is (search rules)))

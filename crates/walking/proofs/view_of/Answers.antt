@@ -10,8 +10,7 @@ use Rattle.plan.proofs.ByOperation.{◌then◌, for_group}
 use Rattle.walking.specs.Movements.{viewed}
 use Rattle.shapes.proofs.Extents.{extents_length}
 use Rattle.shapes.specs.Shown.{words_in}
-use Rattle.walking.proofs.Viewing.{axes_small, source_extents, axes_right, permute_view_lem, flip_view_lem, expand_view, shrink_begins, shrink_view_lem, last_viewed}
-use borrow.Author.Rules.{rules}
+use Rattle.walking.proofs.Viewing.{axes_small, source_extents, axes_right, permute_view_lem, flip_view_lem, expand_view, shrink_begins, shrink_view_lem}
 use Rattle.walking.proofs.view_of.Goals.{in_default-via-in-Ok+in_default, in_default-via-in_default}
 use Rattle.walking.proofs.view_of.Goals as goal
 

@@ -1,8 +1,7 @@
 -- The bounds of a REDUCE and of a STACK.
-use Prim.Native.Nat.{ℕ, ◌<◌, ◌≤◌}
+use Prim.Native.Nat.{ℕ}
 use mathlib.Core.Path.{◌≡◌, refl, ap, sym, ◌∙◌}
 use mathlib.Core.Bool.{Bool, true, false}
-use native.Mathlib.Omega.{arith}
 use lib.IntN.{pos}
 use Rattle.laws.specs.Lists.{among}
 use Rattle.plan.specs.declared.Interval.{Interval}
@@ -13,20 +12,6 @@ use Rattle.plan.specs.Words.{in_number}
 use Rattle.plan.proofs.ByOperation.{stack_third}
 use Rattle.bounds.specs.Rules.{where_bounds, stack_bounds, reduce_bounds, bounds_rules, result_bounds}
 use Rattle.bounds.specs.Narrow.{Result}
-
--- what is left of 9..17 after the eight before it
-pub last_binary : (op : ℕ) → 9 ≤ op → op < 18 → (op ≡ 9 → ⊥) → (op ≡ 10 → ⊥) → (op ≡ 11 → ⊥) → (op ≡ 12 → ⊥) → (op ≡ 13 → ⊥) → (op ≡ 14 → ⊥) → (op ≡ 15 → ⊥) → (op ≡ 16 → ⊥)
-    → op ≡ 17
-last_binary op l h n9 n10 n11 n12 n13 n14 n15 n16 =
-    let past : 13 ≤ op = four op l n9 n10 n11 n12 in
-    let last : 17 ≤ op = four' op past n13 n14 n15 n16 in
-    omega arith
-  where
-    four : (op : ℕ) → 9 ≤ op → (op ≡ 9 → ⊥) → (op ≡ 10 → ⊥) → (op ≡ 11 → ⊥) → (op ≡ 12 → ⊥) → 13 ≤ op
-    four op l a b c d = omega arith
-
-    four' : (op : ℕ) → 13 ≤ op → (op ≡ 13 → ⊥) → (op ≡ 14 → ⊥) → (op ≡ 15 → ⊥) → (op ≡ 16 → ⊥) → 17 ≤ op
-    four' op l a b c d = omega arith
 
 pub stack_three : (a b c : Interval) {third : Bool} {p r : Interval} → third ≡ true → p ≡ where_bounds a b → r ≡ where_bounds p c → r ≡ stack_bounds third a b c
 unfolding stack_bounds

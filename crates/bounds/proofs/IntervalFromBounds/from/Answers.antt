@@ -1,6 +1,6 @@
 use mathlib.Core.Path.{refl}
 use Rattle.bounds.proofs.Readback.{fit32, fit32_small, widened_fits, widened}
-use Rattle.bounds.proofs.wide.Goals as goal
+use Rattle.bounds.proofs.IntervalFromBounds.from.Goals as goal
 
 pub overflow_cast-result : goal.overflow_cast-result
 overflow_cast-result c = widened_fits (fit32 c.args.b.low c.struct_told-1.given.0.1)
