@@ -9,7 +9,7 @@ Items of a cell stand between semicolons; words in parentheses may follow a name
   definition   crate/File: name, name        of crates/crate/specs/File.antt; crate/lib.rt: of its code
                code: `function` (crate/lib.rt or a file, words), ..
                to come with 02 §n
-  contract     `function`, `function`        public ones
+  contract     `function`, `Type::method`    public ones
                all; all calls; every call; (02 ..)
   shown by     crate/File: name, name        of crates/crate/proofs/File.antt
                crate/Facts; Tables of crate, crate; proofs of crate, crate/function
@@ -46,6 +46,8 @@ PART = re.compile(r'^ +(?:pub )?([^\s(]\S*) :(?:\s|$)', re.M)
 DECLARED = re.compile(r'^(?:pub )?(?:extern "C" )?(?:fn|struct|enum|const) (\w+)', re.M)
 PUBLIC = re.compile(r'^pub fn (\w+)', re.M)
 FUNCTION = re.compile(r'^(?:pub )?(?:extern "C" )?fn (\w+)', re.M)
+IMPL = re.compile(r'^impl(?:<[^{]*?>)? (?:(?P<trait>[\w:]+(?:<.*>)?) for )?(?P<type>\w+)[^{]*\{\n(?P<body>.*?)^\}', re.M | re.S)
+METHOD = re.compile(r'^    (?P<pub>pub )?fn (\w+)', re.M)
 C_FUNCTION = re.compile(r'^[a-z][\w ]*[ *](\w+)\(', re.M)
 # `..`; crate/File: name; a path; words with a capital inside, with a _ or a -; words in capitals
 LIKE_A_NAME = re.compile(r'`[^`]*`|[a-z]+/(?:[A-Z]\w*|lib\.rt): [\w-]+|[\w.-]+(?:/[\w.-]+)+'
@@ -92,10 +94,17 @@ def defined(path):
     return names
 
 
+def methods(path, public):
+    """Type::method for each method of a file; public: those of a trait, and those that are declared so."""
+    return {f"{block['type']}::{method[2]}" for block in IMPL.finditer(read(path)) for method in METHOD.finditer(block['body'])
+            if block['trait'] or method['pub'] or not public}
+
+
 @functools.cache
 def code(crate='*', pattern=DECLARED):
     """What the code of a crate, or of all, declares."""
-    return set().union(*(found(pattern, path) for path in glob.glob(at('crates', crate, 'src', '*.rt'))))
+    return set().union(*(found(pattern, path) | methods(path, pattern is PUBLIC)
+                         for path in glob.glob(at('crates', crate, 'src', '*.rt'))))
 
 
 @functools.cache
@@ -297,11 +306,12 @@ def of_map(text):
 
 
 def of_prose(text):
-    """The same of a text's single names in `..`, `crate::function` among them."""
+    """The same of a text's single names in `..`, `crate::function` and `Type::method` among them."""
     for number, line in enumerate(text.split('\n'), 1):
         for crate, name in re.findall(r'`(?:(\w+)::)?([A-Za-z][\w-]*)`', line):
             if name not in LANGUAGE:
-                yield number, crate + '::' * bool(crate) + name, name in (code(crate) if crate else every_name())
+                whole = crate + '::' * bool(crate) + name
+                yield number, whole, whole in code() or name in (code(crate) if crate else every_name())
 
 
 def main():
