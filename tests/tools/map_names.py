@@ -6,7 +6,7 @@ and docs/DECISIONS.md it checks each single name in `..`.
 usage: map_names.py [MAP]     last line: 'N passed, 0 failed', N the number of citations; MAP: of that file alone
 
 Items of a cell stand between semicolons; words in parentheses may follow a name. An item, by the column's head:
-  definition   crate/File: name, name        of crates/crate/specs/File.antt; crate/lib.rt: of its code
+  definition   crate/File: name, name        of crates/crate/specs/File.antt; crate/lib.rt, crate/other.rt: of its code
                code: `function` (crate/lib.rt or a file, words), ..
                to come with 02 §n
   contract     `function`, `Type::method`    public ones
@@ -176,7 +176,7 @@ def listed(text, prefix, has):
 
 def named(item, folder):
     """crate/File: name, name"""
-    match = re.fullmatch(r'([a-z]+)/(\w+|lib\.rt): (.+)', item)
+    match = re.fullmatch(r'([a-z]+)/(\w+|\w+\.rt): (.+)', item)
     if not match:
         return None
     crate, file, names = match.groups()
