@@ -2,11 +2,11 @@
 // in the gaps.
 #![tactic(auto)]
 
-ghost use Rattle.std.specs.Prelude.{◌≡◌, true, ℕ, ◌+◌, ◌*◌, ◌^◌, ◌≤◌, ◌<◌, ℤ, pos, length, get_or, if◌then◌else◌};
+ghost use Rattle.std.specs.Prelude.{◌≡◌, true, ℕ, ◌+◌, ◌^◌, ◌≤◌, ◌<◌, ℤ, pos, length, get_or, if◌then◌else◌};
 ghost use Rattle.laws.specs.Integers.{same_z};
 ghost use Rattle.laws.specs.Store.{store};
 ghost use Rattle.plan.specs.Coded.{number_of};
-ghost use Rattle.views.specs.Views.{rows_of, reach};
+ghost use Rattle.views.specs.Views.{cells_of, reach};
 ghost use Rattle.views.specs.Numbers.{SmallSeen};
 ghost use Rattle.validity.specs.Flags.{mix_flag, mixed_flags};
 ghost use Rattle.validity.specs.Lines.{Before, along, cell_place, last_place};
@@ -15,9 +15,9 @@ ghost use Rattle.elementwise.specs.Mixing.{Mixes, plain_value, mix_value, number
 use arithmetic::{
     ByPower, Different, Greatest, Least, Less, Mix, Product, Quotient, Remainder, Sum,
 };
-use plan::{Operation, Row};
+use plan::Operation;
 use validity::Lines;
-use views::{Line, View};
+use views::{Grid, Line, View};
 
 // WHERE: the second number where the first is not 0, else the third.
 struct Chosen;
@@ -182,18 +182,18 @@ pub fn mix(
     values: &mut [i64],
     flags: &mut [u8],
     op: Operation,
-    g: Row,
+    grid: Grid,
     a: View,
     b: View,
     d: View,
-    rows: usize,
     start: usize,
 )
-    requires { Mixes op × (rows ≡ rows_of g) × (reach g a < start) × (reach g b < start) × (reach g d < start) × (start + rows * g.r3 ≤ length values.old) × (start + rows * g.r3 ≤ length flags.old) × SmallSeen values.old g a × SmallSeen values.old g b }
-    ensures { (values.new ≡ mixed_values (number_of op) values.old flags.old g a b d start) × (flags.new ≡ mixed_flags (number_of op) values.old flags.old g a b d start) }
+    requires { Mixes op × (reach grid.extents a < start) × (reach grid.extents b < start) × (reach grid.extents d < start) × (start + cells_of grid.extents ≤ length values.old) × (start + cells_of grid.extents ≤ length flags.old) × SmallSeen values.old grid.extents a × SmallSeen values.old grid.extents b }
+    ensures { (values.new ≡ mixed_values (number_of op) values.old flags.old grid.extents a b d start) × (flags.new ≡ mixed_flags (number_of op) values.old flags.old grid.extents a b d start) }
 {
+    let g = grid.extents;
     let n = g.r3;
-    for i in 0..rows {
+    for i in 0..grid.rows {
         let lines = Lines {
             a: a.row(g, i),
             b: b.row(g, i),

@@ -1,14 +1,14 @@
 // Movement: cells copied by a view, and cells laid within gaps. A cell is a number or a flag.
 #![tactic(auto)]
 
-ghost use Rattle.std.specs.Prelude.{◌≡◌, true, ℕ, ◌+◌, ◌*◌, ◌^◌, ◌≤◌, ◌<◌, length, get_or};
+ghost use Rattle.std.specs.Prelude.{◌≡◌, true, ℕ, ◌+◌, ◌^◌, ◌≤◌, ◌<◌, length, get_or};
 ghost use Rattle.laws.specs.Store.{store};
 ghost use Rattle.views.specs.Views.{step, span, rows_of, cells_of, reach};
 ghost use Rattle.views.specs.Walks.{in_band, row_inside, row_start};
 ghost use Rattle.moving.specs.Moved.{moved, padded, band_cell, row_cell, Laid};
 
 use plan::Row;
-use views::{Line, Stride, View};
+use views::{Grid, Line, Stride, View};
 
 // n cells of a line, one after another. By copy_from_slice it would call memmove, and docs/FORMAT.md allows memcpy and memset alone;
 // copy_within takes half as long again on rows of 16.
@@ -37,11 +37,12 @@ fn copy_row<T: Copy>(cells: &mut [T], n: usize, from: Line, to: usize)
 }
 
 // The cells that a view walks over.
-pub fn move_cells<T: Copy>(cells: &mut [T], g: Row, v: View, rows: usize, start: usize)
-    requires { (rows ≡ rows_of g) × (reach g v < start) × (start + rows * g.r3 ≤ length cells.old) }
-    ensures { (d : T) → cells.new ≡ moved d cells.old g v start }
+pub fn move_cells<T: Copy>(cells: &mut [T], grid: Grid, v: View, start: usize)
+    requires { (reach grid.extents v < start) × (start + cells_of grid.extents ≤ length cells.old) }
+    ensures { (d : T) → cells.new ≡ moved d cells.old grid.extents v start }
 {
-    for i in 0..rows {
+    let g = grid.extents;
+    for i in 0..grid.rows {
         copy_row(cells, g.r3, v.row(g, i), start + i * g.r3);
     }
 }
@@ -137,17 +138,17 @@ fn lay_row<T: Copy>(
 pub fn lay_cells<T: Copy>(
     cells: &mut [T],
     gap: T,
-    r: Row,
+    grid: Grid,
     o: Row,
     s: Row,
     base: usize,
-    rows: usize,
     start: usize,
 )
-    requires { Laid r o s × (rows ≡ rows_of r) × (base + cells_of s ≤ start) × (start + rows * r.r3 ≤ length cells.old) }
-    ensures { cells.new ≡ padded gap cells.old r o s base start }
+    requires { Laid grid.extents o s × (base + cells_of s ≤ start) × (start + cells_of grid.extents ≤ length cells.old) }
+    ensures { cells.new ≡ padded gap cells.old grid.extents o s base start }
 {
-    for i in 0..rows {
+    let r = grid.extents;
+    for i in 0..grid.rows {
         lay_row(cells, gap, r, o, s, base, i, start + i * r.r3);
     }
 }

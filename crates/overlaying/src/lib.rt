@@ -1,13 +1,12 @@
 // FILL and KNOWN: one view's cells laid over another's, and flags as numbers.
 #![tactic(auto)]
 
-ghost use Rattle.std.specs.Prelude.{◌≡◌, ℕ, ◌+◌, ◌*◌, ◌≤◌, ◌<◌, pos, length, get_or};
+ghost use Rattle.std.specs.Prelude.{◌≡◌, ℕ, ◌+◌, ◌≤◌, ◌<◌, pos, length, get_or};
 ghost use Rattle.laws.specs.Store.{store};
-ghost use Rattle.views.specs.Views.{step, span, rows_of, cells_of, place, reach};
+ghost use Rattle.views.specs.Views.{step, span, cells_of, place, reach};
 ghost use Rattle.overlaying.specs.Overlay.{over, over_cell, overlaid_values, overlaid_flags};
 
-use plan::Row;
-use views::{Line, Stride, View};
+use views::{Grid, Line, Stride, View};
 
 // The cell that is known, else the one below it.
 fn upper<T: Copy>(f: u8, x: T, y: T) -> T
@@ -76,11 +75,12 @@ fn overlay_row<T: Copy>(
 }
 
 // The cells of view a laid over those of view b.
-fn overlay<T: Copy>(out: &mut [T], cells: &[T], flags: &[u8], g: Row, a: View, b: View, rows: usize)
-    requires { (rows ≡ rows_of g) × (reach g a < length cells.now) × (reach g b < length cells.now) × (length cells.now ≤ length flags.now) × (rows * g.r3 ≤ length out.old) }
-    ensures { (d : T) → out.new ≡ store out.old 0 (cells_of g) (λ (j : ℕ). over_cell d cells.now flags.now (place g a j) (place g b j)) }
+fn overlay<T: Copy>(out: &mut [T], cells: &[T], flags: &[u8], grid: Grid, a: View, b: View)
+    requires { (reach grid.extents a < length cells.now) × (reach grid.extents b < length cells.now) × (length cells.now ≤ length flags.now) × (cells_of grid.extents ≤ length out.old) }
+    ensures { (d : T) → out.new ≡ store out.old 0 (cells_of grid.extents) (λ (j : ℕ). over_cell d cells.now flags.now (place grid.extents a j) (place grid.extents b j)) }
 {
-    for i in 0..rows {
+    let g = grid.extents;
+    for i in 0..grid.rows {
         overlay_row(out, cells, flags, g.r3, a.row(g, i), b.row(g, i), i * g.r3);
     }
 }
@@ -89,29 +89,28 @@ fn overlay<T: Copy>(out: &mut [T], cells: &[T], flags: &[u8], g: Row, a: View, b
 pub fn overlay_values(
     values: &mut [i64],
     flags: &[u8],
-    g: Row,
+    grid: Grid,
     a: View,
     b: View,
-    rows: usize,
     start: usize,
 )
-    requires { (rows ≡ rows_of g) × (reach g a < start) × (reach g b < start) × (start + rows * g.r3 ≤ length values.old) × (start + rows * g.r3 ≤ length flags.now) }
-    ensures { values.new ≡ overlaid_values values.old flags.now g a b start }
+    requires { (reach grid.extents a < start) × (reach grid.extents b < start) × (start + cells_of grid.extents ≤ length values.old) × (start + cells_of grid.extents ≤ length flags.now) }
+    ensures { values.new ≡ overlaid_values values.old flags.now grid.extents a b start }
 {
     let (cells, out) = values.split_at_mut(start);
-    overlay(out, cells, flags, g, a, b, rows);
+    overlay(out, cells, flags, grid, a, b);
 }
 
 // The flags of view a laid over those of view b: where one is known, it is 1.
-pub fn overlay_flags(flags: &mut [u8], g: Row, a: View, b: View, rows: usize, start: usize)
-    requires { (rows ≡ rows_of g) × (reach g a < start) × (reach g b < start) × (start + rows * g.r3 ≤ length flags.old) }
-    ensures { flags.new ≡ overlaid_flags flags.old g a b start }
+pub fn overlay_flags(flags: &mut [u8], grid: Grid, a: View, b: View, start: usize)
+    requires { (reach grid.extents a < start) × (reach grid.extents b < start) × (start + cells_of grid.extents ≤ length flags.old) }
+    ensures { flags.new ≡ overlaid_flags flags.old grid.extents a b start }
 {
     let (cells, out) = flags.split_at_mut(start);
-    overlay(out, cells, cells, g, a, b, rows);
+    overlay(out, cells, cells, grid, a, b);
 }
 
-// n flags from p on, as numbers.
+// n flags from p on, as numbers. Written by place: along `iter_mut().zip(..)` the loop's invariant sees the iterator alone, and the proof did not close.
 pub fn known_values(values: &mut [i64], flags: &[u8], n: usize, p: usize, to: usize)
     requires { (p + n ≤ length flags.now) × (to + n ≤ length values.old) }
     ensures { values.new ≡ store values.old to n (λ (j : ℕ). pos (get_or flags.now (p + j) 0)) }

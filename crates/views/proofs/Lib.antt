@@ -9,3 +9,4 @@ pub mod Padding
 pub mod Gathering
 pub mod Weights
 pub mod Permuting
+pub mod Rowwise

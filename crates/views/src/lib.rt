@@ -11,6 +11,10 @@ ghost use Rattle.views.specs.Merging.{as_long, can_merge, merged_grid, merged_vi
 use plan::Row;
 use shapes::Shape;
 
+mod grids;
+
+pub use grids::Grid;
+
 // What one step along an axis adds: upwards, or from the far end.
 #[derive(Clone, Copy)]
 pub struct Stride {

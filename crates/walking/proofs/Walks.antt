@@ -3,15 +3,15 @@ use Prim.Native.Nat.{ℕ, suc, ◌*◌, ◌≤◌, ◌<◌}
 use mathlib.Core.Path.{◌≡◌, refl, sym, ◌∙◌}
 use mathlib.Core.Bool.{true}
 use native.Mathlib.Omega.{arith}
-use native.Mathlib.Nat.{zero-add, mul_assoc, mul_comm, one-mul, le-mul_of_pos_right}
+use native.Mathlib.Nat.{zero-add, mul_assoc, mul_comm, one-mul}
 use Rattle.laws.proofs.Numbering.{factor_pos}
 use Rattle.plan.specs.declared.Row.{Row}
 use Rattle.views.specs.declared.View.{View}
 use Rattle.views.specs.Views.{cells_of, place, reach}
 use Rattle.views.specs.Merging.{can_merge, merged_grid, merged_view}
 use Rattle.views.specs.Walks.{Walks}
-use Rattle.views.proofs.Axiswise.{fourth_pos, row_lt}
 use Rattle.views.proofs.Steps.{cut}
+use Rattle.views.proofs.Rowwise.{rows_some}
 use Rattle.views.proofs.MergingAxes.{merged_walks}
 use Rattle.walking.specs.declared.Walk.{Walk}
 use Rattle.walking.specs.Alike.{Alike, Still, Reaches}
@@ -42,25 +42,14 @@ still_reaches h s =
       d = omega (arith, s.d.far, h.d);
     }
 
--- a plane and the rows have no more cells than the whole
+-- a plane has no more cells than the whole
 module _ (g : Row) {n : ℕ} (some : 0 < cells_of g) (few : cells_of g < n) where
-  rows_pos : 0 < g.r0 * g.r1 * g.r2
-  rows_pos = omega (arith, row_lt g 0 some)
-
   pub plane_below : g.r2 * g.r3 < n
   plane_below =
       let whole : g.r0 * g.r1 * (g.r2 * g.r3) ≡ cells_of g = simp mul_assoc in
-      let outer : 0 < g.r0 * g.r1 = factor_pos g.r2 (g.r0 * g.r1) 0 (rw mul_comm at rows_pos) in
+      let outer : 0 < g.r0 * g.r1 = factor_pos g.r2 (g.r0 * g.r1) 0 (rw mul_comm at (rows_some g some)) in
       let part : g.r2 * g.r3 ≤ cells_of g = cut (g.r0 * g.r1) (g.r2 * g.r3) outer (omega (arith, whole)) in
       omega (arith, few)
-
-  pub rows_below : g.r0 * g.r1 * g.r2 < n
-  rows_below = omega (arith, le-mul_of_pos_right (g.r0 * g.r1 * g.r2) (fourth_pos g 0 some), few)
-
-  pub outer_below : g.r0 * g.r1 < n
-  outer_below =
-      let third : 0 < g.r2 = factor_pos (g.r0 * g.r1) g.r2 0 rows_pos in
-      omega (arith, le-mul_of_pos_right (g.r0 * g.r1) third, rows_below)
 
 -- a walk whose last two axes are one
 pub merged_still : (w : Walk) → 0 < cells_of w.grid → can_merge w.grid w.a ≡ true → can_merge w.grid w.b ≡ true → can_merge w.grid w.d ≡ true

@@ -6,7 +6,6 @@ ghost use Rattle.laws.specs.Numbering.{count};
 ghost use Rattle.plan.specs.Words.{list_of};
 ghost use Rattle.shapes.specs.Rules.{result_extents};
 ghost use Rattle.shapes.specs.Shown.{shown};
-ghost use Rattle.views.specs.Views.{rows_of, cells_of};
 ghost use Rattle.views.specs.Walks.{InFront, Walks};
 ghost use Rattle.walking.specs.Alike.{Still, Reaches};
 ghost use Rattle.walking.specs.Movements.{viewed_from, Viewed};
@@ -52,14 +51,6 @@ pub fn settle(w: Walk) -> Walk
     ensures { Still w result }
 {
     merge(merge(merge(w)))
-}
-
-// The rows of a grid.
-pub fn rows(g: Row) -> usize
-    requires { (0 < cells_of g) × (cells_of g < 2 ^ 63) }
-    ensures { result ≡ rows_of g }
-{
-    g.r0 * g.r1 * g.r2
 }
 
 // The view of a PERMUTE, FLIP, EXPAND or SHRINK whose source has shape s and begins at base.

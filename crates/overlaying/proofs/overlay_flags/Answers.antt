@@ -10,5 +10,5 @@ returns c =
     let xs = p.result.0.now in
     let ys = p.result.1.now in
     let read = front_read xs ys 0 p.ensures.value p.ensures.front_len in
-    whole_overlaid xs ys a.g a.a a.b (over_cell 0 xs xs) (over_flag a.flags.now) p.ensures.value p.ensures.front_len c.requires.1 c.requires.2
+    whole_overlaid xs ys a.grid.extents a.a a.b (over_cell 0 xs xs) (over_flag a.flags.now) p.ensures.value p.ensures.front_len c.requires.0 c.requires.1
     (λ (k h : ℕ) u v. rw (over_own, read k u, read h v)) (c.overlay.ensures 0)

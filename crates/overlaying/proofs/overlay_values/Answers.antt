@@ -11,5 +11,5 @@ returns c =
     let xs = p.result.0.now in
     let ys = p.result.1.now in
     let read = front_read xs ys (pos 0) p.ensures.value p.ensures.front_len in
-    whole_overlaid xs ys a.g a.a a.b (over_cell (pos 0) xs a.flags.now) (over_value a.values.now a.flags.now) p.ensures.value p.ensures.front_len c.requires.1 c.requires.2
+    whole_overlaid xs ys a.grid.extents a.a a.b (over_cell (pos 0) xs a.flags.now) (over_value a.values.now a.flags.now) p.ensures.value p.ensures.front_len c.requires.0 c.requires.1
     (λ (k h : ℕ) u v. rw (read k u, read h v)) (c.overlay.ensures (pos 0))
