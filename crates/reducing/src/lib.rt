@@ -5,17 +5,17 @@
 ghost use Rattle.std.specs.Prelude.{◌≡◌, ℕ, ◌+◌, ◌*◌, ◌^◌, ◌≤◌, ◌<◌, pos, length, get_or};
 ghost use Rattle.laws.specs.Store.{store};
 ghost use Rattle.views.specs.Numbers.{SmallIn};
-ghost use Rattle.views.specs.Views.{rows_of, cells_of, place, reach};
+ghost use Rattle.views.specs.Views.{cells_of, place, reach};
 ghost use Rattle.reducing.specs.Folding.{fold_from, combine_of, first, source, reduced_flags, reduced_values};
 ghost use Rattle.reducing.specs.Gathering.{along, far, taken, runs, AllIn, Room};
 
 use folding::{Fold, Larger, Smaller, Sum};
-use grids::Grid;
-use plan::Row;
-use views::{Line, View};
+use views::{Line, Stride};
 
 mod folding;
 mod grids;
+
+pub use grids::GridView;
 
 // A run of n cells along a line folded into acc.
 fn fold_along<F: Fold>(cells: &[F::Cell], acc: F::Cell, n: usize, line: Line) -> F::Cell
@@ -34,10 +34,10 @@ fn fold_run<F: Fold>(cells: &[F::Cell], acc: F::Cell, n: usize, line: Line) -> F
     requires { (far n line < length cells.now) × AllIn F.Fits F.blank cells.now line.place (far n line + 1) × F.HasRoom n acc }
     ensures { result ≡ fold_from F.op acc (λ (i : ℕ). get_or cells.now (along n line i) F.blank) n }
 {
-    if views::is_stride(line.stride, 1, 0) {
-        return fold_along::<F>(cells, acc, n, Line::unit(line.place));
+    match line.stride {
+        Stride { up: 1, down: 0 } => fold_along::<F>(cells, acc, n, Line::unit(line.place)),
+        _ => fold_along::<F>(cells, acc, n, line),
     }
-    fold_along::<F>(cells, acc, n, line)
 }
 
 // The line that begins further on.
@@ -84,11 +84,10 @@ fn take_each<F: Fold>(cells: &mut [F::Cell], n: usize, line: Line, to: usize)
     requires { (far n line < to) × (to + n ≤ length cells.old) × AllIn F.Fits F.blank cells.old line.place (far n line + 1) × Room F.HasRoom F.blank cells.old to n 1 }
     ensures { cells.new ≡ taken F.op F.blank cells.old to n (λ (c i : ℕ). along n line c) 1 }
 {
-    if views::is_stride(line.stride, 1, 0) {
-        take_along::<F>(cells, n, Line::unit(line.place), to);
-        return;
+    match line.stride {
+        Stride { up: 1, down: 0 } => take_along::<F>(cells, n, Line::unit(line.place), to),
+        _ => take_along::<F>(cells, n, line, to),
     }
-    take_along::<F>(cells, n, line, to);
 }
 
 // A row of the result and a row of m of what is gathered: where m is 1, cell by cell.
@@ -111,72 +110,58 @@ fn fold_row<F: Fold>(
 }
 
 // All rows of the result, and one row of what is gathered.
-fn fold_rows<F: Fold>(cells: &mut [F::Cell], kept: Grid, m: usize, gathered: Line, start: usize)
-    requires { (reach kept.extents kept.view + far m gathered < start) × (start + cells_of kept.extents ≤ length cells.old) × AllIn F.Fits F.blank cells.old kept.view.base (reach kept.extents kept.view + far m gathered + 1) × Room F.HasRoom F.blank cells.old start (cells_of kept.extents) m }
-    ensures { cells.new ≡ taken F.op F.blank cells.old start (cells_of kept.extents) (λ (e i : ℕ). place kept.extents kept.view e + along m gathered i) m }
+fn fold_rows<F: Fold>(cells: &mut [F::Cell], kept: GridView, m: usize, gathered: Line, start: usize)
+    requires { (reach kept.grid.extents kept.view + far m gathered < start) × (start + cells_of kept.grid.extents ≤ length cells.old) × AllIn F.Fits F.blank cells.old kept.view.base (reach kept.grid.extents kept.view + far m gathered + 1) × Room F.HasRoom F.blank cells.old start (cells_of kept.grid.extents) m }
+    ensures { cells.new ≡ taken F.op F.blank cells.old start (cells_of kept.grid.extents) (λ (e i : ℕ). place kept.grid.extents kept.view e + along m gathered i) m }
 {
-    let n = kept.extents.r3;
-    for i in 0..kept.rows {
+    let n = kept.grid.extents.r3;
+    for i in 0..kept.grid.rows {
         let row = kept.row(i);
         fold_row::<F>(cells, n, row, m, gathered, start + i * n);
     }
 }
 
 // All rows of what is gathered, one after another.
-fn fold_blocks<F: Fold>(cells: &mut [F::Cell], kept: Grid, gathered: Grid, start: usize)
-    requires { (reach kept.extents kept.view + reach gathered.extents gathered.view < start) × (start + cells_of kept.extents ≤ length cells.old) × AllIn F.Fits F.blank cells.old kept.view.base (reach kept.extents kept.view + reach gathered.extents gathered.view + 1) × Room F.HasRoom F.blank cells.old start (cells_of kept.extents) (cells_of gathered.extents) }
-    ensures { cells.new ≡ taken F.op F.blank cells.old start (cells_of kept.extents) (source kept.extents kept.view gathered.extents gathered.view) (cells_of gathered.extents) }
+fn fold_blocks<F: Fold>(cells: &mut [F::Cell], kept: GridView, gathered: GridView, start: usize)
+    requires { (reach kept.grid.extents kept.view + reach gathered.grid.extents gathered.view < start) × (start + cells_of kept.grid.extents ≤ length cells.old) × AllIn F.Fits F.blank cells.old kept.view.base (reach kept.grid.extents kept.view + reach gathered.grid.extents gathered.view + 1) × Room F.HasRoom F.blank cells.old start (cells_of kept.grid.extents) (cells_of gathered.grid.extents) }
+    ensures { cells.new ≡ taken F.op F.blank cells.old start (cells_of kept.grid.extents) (source kept.grid.extents kept.view gathered.grid.extents gathered.view) (cells_of gathered.grid.extents) }
 {
-    let m = gathered.extents.r3;
-    for j in 0..gathered.rows {
+    let m = gathered.grid.extents.r3;
+    for j in 0..gathered.grid.rows {
         let run = gathered.row(j);
         fold_rows::<F>(cells, kept, m, run, start);
     }
 }
 
 // A sum begins with 0, a maximum with its first number.
-fn fold_values(values: &mut [i64], how: usize, kept: Grid, gathered: Grid, start: usize)
-    requires { (cells_of gathered.extents ≤ 1048576) × (reach kept.extents kept.view + reach gathered.extents gathered.view < start) × (start + cells_of kept.extents ≤ length values.old) × SmallIn values.old kept.view.base (reach kept.extents kept.view + reach gathered.extents gathered.view + 1) }
-    ensures { values.new ≡ store values.old start (cells_of kept.extents) (λ (e : ℕ). fold_from (combine_of how) (first how values.old (place kept.extents kept.view e)) (λ (i : ℕ). get_or values.old (source kept.extents kept.view gathered.extents gathered.view e i) (pos 0)) (cells_of gathered.extents)) }
+fn fold_values(values: &mut [i64], how: usize, kept: GridView, gathered: GridView, start: usize)
+    requires { (cells_of gathered.grid.extents ≤ 1048576) × (reach kept.grid.extents kept.view + reach gathered.grid.extents gathered.view < start) × (start + cells_of kept.grid.extents ≤ length values.old) × SmallIn values.old kept.view.base (reach kept.grid.extents kept.view + reach gathered.grid.extents gathered.view + 1) }
+    ensures { values.new ≡ store values.old start (cells_of kept.grid.extents) (λ (e : ℕ). fold_from (combine_of how) (first how values.old (place kept.grid.extents kept.view e)) (λ (i : ℕ). get_or values.old (source kept.grid.extents kept.view gathered.grid.extents gathered.view e i) (pos 0)) (cells_of gathered.grid.extents)) }
 {
     if how == 0 {
-        moving::fill(values, kept.rows * kept.extents.r3, start, 0);
+        moving::fill(values, kept.grid.rows * kept.grid.extents.r3, start, 0);
         fold_blocks::<Sum>(values, kept, gathered, start);
         return;
     }
-    moving::move_cells(values, kept.extents, kept.view, kept.rows, start);
+    moving::move_cells(values, kept.grid, kept.view, start);
     fold_blocks::<Larger>(values, kept, gathered, start);
 }
 
-// REDUCE.
+// REDUCE. The parameter `how` stays a number: the definition `reduced_values` and the node's word speak of it, and fold_values alone chooses by it.
 pub fn reduce(
     values: &mut [i64],
     flags: &mut [u8],
     how: usize,
-    k: Row,
-    kept: View,
-    g: Row,
-    gathered: View,
-    rows: usize,
-    blocks: usize,
+    kept: GridView,
+    gathered: GridView,
     start: usize,
 )
-    requires { (rows ≡ rows_of k) × (blocks ≡ rows_of g) × (gathered.base ≡ 0) × (0 < cells_of g) × (cells_of g ≤ 1048576) × (reach k kept + reach g gathered < start) × (start + rows * k.r3 ≤ length values.old) × (start + rows * k.r3 ≤ length flags.old) × SmallIn values.old kept.base (reach k kept + reach g gathered + 1) }
-    ensures values_after { values.new ≡ reduced_values how values.old flags.old k kept g gathered start }
-    ensures flags_after { flags.new ≡ reduced_flags flags.old k kept g gathered start }
+    requires { (gathered.view.base ≡ 0) × (0 < cells_of gathered.grid.extents) × (cells_of gathered.grid.extents ≤ 1048576) × (reach kept.grid.extents kept.view + reach gathered.grid.extents gathered.view < start) × (start + cells_of kept.grid.extents ≤ length values.old) × (start + cells_of kept.grid.extents ≤ length flags.old) × SmallIn values.old kept.view.base (reach kept.grid.extents kept.view + reach gathered.grid.extents gathered.view + 1) }
+    ensures values_after { values.new ≡ reduced_values how values.old flags.old kept.grid.extents kept.view gathered.grid.extents gathered.view start }
+    ensures flags_after { flags.new ≡ reduced_flags flags.old kept.grid.extents kept.view gathered.grid.extents gathered.view start }
 {
-    let from = Grid {
-        extents: k,
-        view: kept,
-        rows,
-    };
-    let over = Grid {
-        extents: g,
-        view: gathered,
-        rows: blocks,
-    };
-    moving::move_cells(flags, k, kept, rows, start);
-    fold_blocks::<Smaller>(flags, from, over, start);
-    fold_values(values, how, from, over, start);
-    validity::clear_own(values, flags, rows * k.r3, start);
+    moving::move_cells(flags, kept.grid, kept.view, start);
+    fold_blocks::<Smaller>(flags, kept, gathered, start);
+    fold_values(values, how, kept, gathered, start);
+    validity::clear_own(values, flags, kept.grid.rows * kept.grid.extents.r3, start);
 }

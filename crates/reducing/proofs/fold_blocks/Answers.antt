@@ -19,12 +19,12 @@ fold_rows-requires g c =
     let kept = a.kept in
     let over = a.gathered in
     let run = c.row-run.ensures in
-    let near = row_near over.extents over.view (reach kept.extents kept.view) (reach kept.extents kept.view + reach over.extents over.view + 1) c.loop-j.j (omega arith) run.0 run.1 in (
+    let near = row_near over.grid.extents over.view (reach kept.grid.extents kept.view) (reach kept.grid.extents kept.view + reach over.grid.extents over.view + 1) c.loop-j.j (omega arith) run.0 run.1 in (
       omega (arith, near, c.requires.0),
       omega (arith, v.0, c.requires.1),
-      fit_kept fold.blank a.cells.now c.loop-j.cells a.start (cells_of kept.extents) _ v.1 fold.Fits c.requires.2 (omega (arith, c.requires.0)) (omega arith) (omega (arith, near)),
-      room_block g.met.F.Fold.laws fold.blank _ _ a.start (cells_of kept.extents) c.loop-j.j (rows_of over.extents) over.extents.r3 _ c.requires.1 v.1
-          (sources_fit kept.extents kept.view fold.Fits fold.blank a.cells.now over.extents over.view c.requires.2) c.requires.3 (rw (← over.all_rows) c.loop-j-test.true),
+      fit_kept fold.blank a.cells.now c.loop-j.cells a.start (cells_of kept.grid.extents) _ v.1 fold.Fits c.requires.2 (omega (arith, c.requires.0)) (omega arith) (omega (arith, near)),
+      room_block g.met.F.Fold.laws fold.blank _ _ a.start (cells_of kept.grid.extents) c.loop-j.j (rows_of over.grid.extents) over.grid.extents.r3 _ c.requires.1 v.1
+          (sources_fit kept.grid.extents kept.view fold.Fits fold.blank a.cells.now over.grid.extents over.view c.requires.2) c.requires.3 (rw (← over.grid.all_rows) c.loop-j-test.true),
     )
 
 pub loop-j-preserved : goal.loop-j-preserved
@@ -33,6 +33,6 @@ loop-j-preserved g c =
     let v = c.loop-j.invariant in
     let h = c.fold_rows.ensures in (
       rw (h, length_store) v.0,
-      block_turn _ _ _ _ _ a.kept.extents a.kept.view a.start a.gathered.extents a.gathered.view c.loop-j.j c.requires.0 c.requires.1
-          (rw (← a.gathered.all_rows) c.loop-j-test.true) v.1 h c.row-run.ensures.0,
+      block_turn _ _ _ _ _ a.kept.grid.extents a.kept.view a.start a.gathered.grid.extents a.gathered.view c.loop-j.j c.requires.0 c.requires.1
+          (rw (← a.gathered.grid.all_rows) c.loop-j-test.true) v.1 h c.row-run.ensures.0,
     )

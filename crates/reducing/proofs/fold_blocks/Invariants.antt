@@ -10,4 +10,4 @@ abbrev pub invariant-loop-j : goal.invariant-loop-j
 invariant-loop-j g l =
     let fold = g.F.Fold in
     (length l.cells ≡ length l.initial.cells)
-    × (l.cells ≡ taken fold.op fold.blank l.initial.cells l.start (cells_of l.kept.extents) (source l.kept.extents l.kept.view l.gathered.extents l.gathered.view) (l.j * l.m))
+    × (l.cells ≡ taken fold.op fold.blank l.initial.cells l.start (cells_of l.kept.grid.extents) (source l.kept.grid.extents l.kept.view l.gathered.grid.extents l.gathered.view) (l.j * l.m))

@@ -16,13 +16,13 @@ loop-i-init g c = (refl, rw zero-mul (store_none _ _ _))
 pub fold_row-requires : goal.fold_row-requires
 fold_row-requires g c =
     let a = c.args in
-    let k = a.kept.extents in
+    let k = a.kept.grid.extents in
     let fold = g.F.Fold in
     let v = c.loop-i.invariant in
     let i = c.loop-i.i in
     let row = c.row-row.ensures in
     let more = far a.m a.gathered in
-    let fits : i * k.r3 + k.r3 ≤ cells_of k = rw (← a.kept.all_rows) (block_fits i a.kept.rows k.r3 c.loop-i-test.true) in
+    let fits : i * k.r3 + k.r3 ≤ cells_of k = rw (← a.kept.grid.all_rows) (block_fits i a.kept.grid.rows k.r3 c.loop-i-test.true) in
     let near = row_near k a.kept.view more (reach k a.kept.view + more + 1) i (omega arith) row.0 row.1 in (
       omega (arith, near, c.requires.0),
       omega (arith, v.0, c.requires.1, fits),
@@ -36,5 +36,5 @@ loop-i-preserved g c =
     let v = c.loop-i.invariant in
     let h = c.fold_row.ensures in (
       rw (h, length_store) v.0,
-      row_turn _ _ _ _ _ a.kept.extents a.kept.view a.start c.loop-i.i a.m a.gathered c.requires.0 (rw (← a.kept.all_rows) c.loop-i-test.true) v.1 h c.row-row.ensures.0,
+      row_turn _ _ _ _ _ a.kept.grid.extents a.kept.view a.start c.loop-i.i a.m a.gathered c.requires.0 (rw (← a.kept.grid.all_rows) c.loop-i-test.true) v.1 h c.row-row.ensures.0,
     )

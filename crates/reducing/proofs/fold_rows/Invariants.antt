@@ -9,4 +9,4 @@ abbrev pub invariant-loop-i : goal.invariant-loop-i
 invariant-loop-i g l =
     let fold = g.F.Fold in
     (length l.cells ≡ length l.initial.cells)
-    × (l.cells ≡ taken fold.op fold.blank l.initial.cells l.start (l.i * l.n) (λ (e j : ℕ). place l.kept.extents l.kept.view e + along l.m l.gathered j) l.m)
+    × (l.cells ≡ taken fold.op fold.blank l.initial.cells l.start (l.i * l.n) (λ (e j : ℕ). place l.kept.grid.extents l.kept.view e + along l.m l.gathered j) l.m)

@@ -22,22 +22,22 @@ begin_room l m start n k fits e few c h = rw (store_hit l m start n _ c (pos 0) 
 pub fold_blocks-requires : goal.fold_blocks-requires
 fold_blocks-requires c =
     let a = c.args in
-    let n = cells_of a.kept.extents in
-    let e = rw a.kept.all_rows at c.fill.ensures in (
+    let n = cells_of a.kept.grid.extents in
+    let e = rw a.kept.grid.all_rows at c.fill.ensures in (
       c.requires.1,
       rw (e, length_store) c.requires.2,
       fit_kept (pos 0) a.values.now c.fill.new.cells a.start n _ e Small c.requires.3 (omega (arith, c.requires.1)) (omega arith) (omega arith),
-      begin_room _ _ a.start n (cells_of a.gathered.extents) c.requires.2 e c.requires.0,
+      begin_room _ _ a.start n (cells_of a.gathered.grid.extents) c.requires.2 e c.requires.0,
     )
 
 pub returns-then-how-eq0 : goal.returns-then-how-eq0
 returns-then-how-eq0 c =
     let a = c.args in
     rw c.if-how-eq0.true
-    (whole _ _ _ _ _ a.kept.extents a.kept.view a.start a.gathered.extents a.gathered.view _ c.requires.1 c.requires.2 (rw a.kept.all_rows at c.fill.ensures) c.fold_blocks.ensures)
+    (whole _ _ _ _ _ a.kept.grid.extents a.kept.view a.start a.gathered.grid.extents a.gathered.view _ c.requires.1 c.requires.2 (rw a.kept.grid.all_rows at c.fill.ensures) c.fold_blocks.ensures)
 
 pub returns : goal.returns
 returns c =
     let a = c.args in
     rw (ne_eqb a.how 0 c.if-how-eq0.false)
-    (whole _ _ _ _ _ a.kept.extents a.kept.view a.start a.gathered.extents a.gathered.view _ c.requires.1 c.requires.2 (c.move_cells.ensures (pos 0)) c.fold_blocks-2.ensures)
+    (whole _ _ _ _ _ a.kept.grid.extents a.kept.view a.start a.gathered.grid.extents a.gathered.view _ c.requires.1 c.requires.2 (c.move_cells.ensures (pos 0)) c.fold_blocks-2.ensures)

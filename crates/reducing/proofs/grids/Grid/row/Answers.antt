@@ -1,6 +1,0 @@
-use native.Mathlib.Omega.{arith}
-use Rattle.views.proofs.RowPlaces.{rows_below}
-use Rattle.reducing.proofs.grids.Grid.row.Goals as goal
-
-pub row-requires : goal.row-requires
-row-requires c = let grid = c.args.self in (omega (arith, c.requires.0, grid.all_rows), rows_below grid.extents grid.view c.requires.1)
