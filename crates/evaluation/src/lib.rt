@@ -27,8 +27,9 @@ ghost use Rattle.evaluation.specs.Standing.{Source, Evaluates, Room, Given, copi
 ghost use Rattle.evaluation.specs.Spread.{Spreading, Spread};
 
 use plan::{Node, Operation, Row};
+use reducing::GridView;
 use shapes::Shape;
-use views::{Stride, View};
+use views::{Grid, Stride, View};
 use walking::Walk;
 
 // The cells that a view walks over.
@@ -42,9 +43,9 @@ fn move_cells(g: Row, v: View, values: &mut [i64], flags: &mut [u8], start: usiz
         b: v,
         d: v,
     });
-    let rows = walking::rows(w.grid);
-    moving::move_cells(values, w.grid, w.a, rows, start);
-    moving::move_cells(flags, w.grid, w.a, rows, start);
+    let grid = Grid::of(w.grid);
+    moving::move_cells(values, grid, w.a, start);
+    moving::move_cells(flags, grid, w.a, start);
 }
 
 // PERMUTE, FLIP, EXPAND and SHRINK.
@@ -119,9 +120,9 @@ pub fn eval_padded(
     let g = views::grid(r);
     let inner = views::grid(s);
     let offsets = views::words(x.rowb, shapes::rank(s));
-    let rows = walking::rows(g);
-    moving::lay_cells(values, 0, g, offsets, inner, base, rows, start);
-    moving::lay_cells(flags, 0, g, offsets, inner, base, rows, start);
+    let grid = Grid::of(g);
+    moving::lay_cells(values, 0, grid, offsets, inner, base, start);
+    moving::lay_cells(flags, 0, grid, offsets, inner, base, start);
 }
 
 // CONST: its number.
@@ -174,8 +175,8 @@ fn mix_cells(op: Operation, w: Walk, values: &mut [i64], flags: &mut [u8], start
     ensures { (values.new ≡ mixed_values (number_of op) values.old flags.old w.grid w.a w.b w.d start) × (flags.new ≡ mixed_flags (number_of op) values.old flags.old w.grid w.a w.b w.d start) }
 {
     let t = walking::settle(w);
-    let rows = walking::rows(t.grid);
-    elementwise::mix(values, flags, op, t.grid, t.a, t.b, t.d, rows, start);
+    let grid = Grid::of(t.grid);
+    elementwise::mix(values, flags, op, grid, t.a, t.b, t.d, start);
 }
 
 // The views of the sources of a binary operation or WHERE, over the grid of its result; a binary operation has its second twice.
@@ -266,11 +267,15 @@ pub fn eval_reduced(
         d: kept,
     });
     let how = plan::size_of_word(x.number);
-    let rows = walking::rows(w.grid);
-    let blocks = walking::rows(g);
-    reducing::reduce(
-        values, flags, how, w.grid, w.a, g, gathered, rows, blocks, start,
-    );
+    let from = GridView {
+        grid: Grid::of(w.grid),
+        view: w.a,
+    };
+    let over = GridView {
+        grid: Grid::of(g),
+        view: gathered,
+    };
+    reducing::reduce(values, flags, how, from, over, start);
 }
 
 // The cells of a view laid over those of another.
@@ -279,9 +284,9 @@ fn overlay_cells(w: Walk, values: &mut [i64], flags: &mut [u8], start: usize)
     ensures { (values.new ≡ overlaid_values values.old flags.old w.grid w.a w.b start) × (flags.new ≡ overlaid_flags flags.old w.grid w.a w.b start) }
 {
     let t = walking::settle(w);
-    let rows = walking::rows(t.grid);
-    overlaying::overlay_values(values, flags, t.grid, t.a, t.b, rows, start);
-    overlaying::overlay_flags(flags, t.grid, t.a, t.b, rows, start);
+    let grid = Grid::of(t.grid);
+    overlaying::overlay_values(values, flags, grid, t.a, t.b, start);
+    overlaying::overlay_flags(flags, grid, t.a, t.b, start);
 }
 
 // FILL.

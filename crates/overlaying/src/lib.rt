@@ -86,14 +86,7 @@ fn overlay<T: Copy>(out: &mut [T], cells: &[T], flags: &[u8], grid: Grid, a: Vie
 }
 
 // The numbers of view a laid over those of view b.
-pub fn overlay_values(
-    values: &mut [i64],
-    flags: &[u8],
-    grid: Grid,
-    a: View,
-    b: View,
-    start: usize,
-)
+pub fn overlay_values(values: &mut [i64], flags: &[u8], grid: Grid, a: View, b: View, start: usize)
     requires { (reach grid.extents a < start) × (reach grid.extents b < start) × (start + cells_of grid.extents ≤ length values.old) × (start + cells_of grid.extents ≤ length flags.now) }
     ensures { values.new ≡ overlaid_values values.old flags.now grid.extents a b start }
 {

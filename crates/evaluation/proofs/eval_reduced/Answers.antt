@@ -34,14 +34,14 @@ settle-w-requires c =
     let far : reach c.grid.result c.kept_view-kept.result < 2 ^ 63 = rw c.kept_view-kept.ensures (omega (arith, within, c.requires.2, room.values, c.well_formed.1.1.1.1.0)) in
     record { some = rw cells room.some; few = rw cells (omega (arith, room.values, c.well_formed.1.1.1.1.0)); a = far; b = far; d = far }
 
-pub rows-rows-requires : goal.rows-rows-requires
-rows-rows-requires c =
+pub of-requires : goal.of-requires
+of-requires c =
     let cells = grid_cells (shown c.args.r) c.grid.result c.grid.ensures in
     let same = c.settle-w.ensures.cells in
     (omega (arith, same, cells, c.requires.1.some), omega (arith, same, cells, c.requires.1.values, c.well_formed.1.1.1.1.0))
 
-pub rows-blocks-requires : goal.rows-blocks-requires
-rows-blocks-requires c =
+pub of-requires-2 : goal.of-requires-2
+of-requires-2 c =
     let axes = rw c.rank.ensures at c.words-axes.ensures in
     let fits = gathered_fits c.args.x _ _ c.grid-inner.result c.words-axes.result c.gathered_grid-g.result c.requires.0 c.grid-inner.ensures axes c.gathered_grid-g.ensures in
     (fits.0, omega (arith, fits.1))
@@ -52,19 +52,18 @@ reduce-requires c =
     let room = c.requires.1 in
     let w = rw c.kept_view-kept.ensures at c.settle-w.ensures in
     let cells = grid_cells (shown c.args.r) c.grid.result c.grid.ensures in
-    let rows = c.rows-rows.ensures in
+    let k = c.of.ensures in
+    let g = c.of-2.ensures in
     let view = c.gathered_view-gathered.ensures in
     let fits = gathered_fits c.args.x _ _ c.grid-inner.result c.words-axes.result c.gathered_grid-g.result c.requires.0 c.grid-inner.ensures axes c.gathered_grid-g.ensures in
     let within = reduce_within c.args.x _ _ c.grid-inner.result c.words-axes.result c.gathered_grid-g.result c.requires.0 c.grid-inner.ensures axes c.gathered_grid-g.ensures c.grid.result c.args.base c.grid.ensures in (
-      rows,
-      c.rows-blocks.ensures,
       rw view refl,
-      fits.0,
-      fits.1,
-      rw view (omega (arith, within, w.a.far, c.requires.2)),
-      rw rows (omega (arith, w.cells, cells, room.values)),
-      rw rows (omega (arith, w.cells, cells, room.flags)),
-      λ q low high. c.requires.3 q (omega (arith, w.a.begins)) (omega (arith, within, w.a.far, rw view at high)),
+      rw g fits.0,
+      rw g fits.1,
+      rw (k, g, view) (omega (arith, within, w.a.far, c.requires.2)),
+      rw k (omega (arith, w.cells, cells, room.values)),
+      rw k (omega (arith, w.cells, cells, room.flags)),
+      λ q low high. c.requires.3 q (omega (arith, w.a.begins)) (omega (arith, within, w.a.far, rw (k, g, view) at high)),
     )
 
 pub returns : goal.returns
@@ -74,6 +73,6 @@ returns c =
     let view = c.gathered_view-gathered.ensures in
     let number = read_back_is (fit_at c.args.x.number c.struct_told-1.given.1.1.1.1.1.0.1) in
     let how = c.size_of_word-how.ensures ∙ ap size_of number in
-    let values = rw (view, how) at c.reduce.ensures.values_after in
-    let flags = rw view at c.reduce.ensures.flags_after in
+    let values = rw (view, how, c.of.ensures, c.of-2.ensures) at c.reduce.ensures.values_after in
+    let flags = rw (view, c.of.ensures, c.of-2.ensures) at c.reduce.ensures.flags_after in
     λ o from. reduce_evaluates c.args.x _ _ c.grid-inner.result c.words-axes.result c.gathered_grid-g.result c.requires.0 c.grid-inner.ensures axes c.gathered_grid-g.ensures c.grid.result c.args.base c.grid.ensures c.settle-w.result.grid c.settle-w.result.a o _ _ c.args.start w.cells w.a from values flags
