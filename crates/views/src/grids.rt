@@ -18,9 +18,7 @@ impl Grid {
         requires { (0 < cells_of extents) × (cells_of extents < 2 ^ 63) }
         ensures { result.extents ≡ extents }
     {
-        Grid {
-            extents,
-            rows: extents.r0 * extents.r1 * extents.r2,
-        }
+        let rows = extents.r0 * extents.r1 * extents.r2;
+        Grid { extents, rows }
     }
 }
