@@ -67,7 +67,8 @@ fn groups(bytes: &[u8], from: usize, first: usize) -> Result<Number, Refusal>
 {
     let mut value = first % 128;
     let mut scale = 128;
-    for at in from + 1..from + 5 {
+    for i in 1..5 {
+        let at = from + i;
         if bytes.len() <= at {
             return Err(Fault::CutShort.at(from));
         }

@@ -21,7 +21,8 @@ fn groups(k: usize, m: usize, bytes: &mut [u8], at: usize) -> usize
     ensures { Writes (groups_of k m) k bytes.old at bytes.new result }
 {
     let mut rest = m;
-    for to in at..at + k {
+    for i in 0..k {
+        let to = at + i;
         if rest < 128 {
             bytes[to] = rest as u8;
             return to + 1;
