@@ -3,24 +3,28 @@ use Prim.Native.Nat.{ℕ, zero, suc, ◌+◌, ◌*◌, ◌-◌, ◌/◌, ◌%◌
 use mathlib.Core.Path.{◌≡◌, refl, sym, ap, ◌∙◌}
 use mathlib.Core.Bool.{Bool, true, false, cond}
 use mathlib.Core.List.{List, [], ◌∷◌, ◌++◌, append_assoc, append-nil}
-use native.Mathlib.Nat.{pow-succ', add-zero, add-suc}
+use native.Mathlib.Nat.{pow-succ', add-zero, add-suc, eq-or-lt_of_le}
+use mathlib.Core.Logic.{⊎_elim}
 use native.Mathlib.Numerals.{add-one, sub-one}
 use native.Mathlib.Omega.{arith}
-use borrow.Author.Tests.{ltb-true, ltb-false}
-use lib.Dec.{ltb}
+use borrow.Author.Tests.{ltb-true, ltb-false, leb-true, leb-false}
+use Rattle.std.proofs.Math.Nat.{div-lt_iff_lt-mul}
+use Rattle.std.proofs.lemmas.Nat.{pow_pos, pow_below}
+use lib.Dec.{ltb, leb}
 use lib.IntN.{ℤ, pos, negsuc, ◌-ℤ◌, nat_abs}
 use lib.ListN.{length, get_or, set, length-append}
 use lib.Signed.{mag, lt_z}
 use mir.Syntax.{w64}
 use mir.Val.{SFits, Fits}
-use Rattle.laws.proofs.Booleans.{bool_cases}
+use Rattle.laws.specs.Lists.{all_below}
+use Rattle.laws.proofs.Booleans.{bool_cases, all_below_lem}
 use Rattle.laws.proofs.Machine.{read_back, read_back_is, read_below, flip_is}
 use Rattle.packing.specs.Bytes.{groups_of, bytes_of, packed_word}
 use Rattle.laws.specs.Pieces.{Writes}
 use Rattle.packing.specs.Writing.{word_bytes}
 use Rattle.packing.specs.Packing.{words_to, node_bytes}
-use Rattle.plan.specs.Operations.{uses, masks, operation_count}
-use Rattle.plan.proofs.Masks.{mask_last}
+use Rattle.plan.specs.Operations.{uses, mask_of, masks, operation_count}
+use Rattle.plan.proofs.Masks.{mask_last, mask_low}
 use Rattle.plan.specs.Words.{word_at, size_at}
 use Rattle.codec.proofs.Prefix.{used, few_used}
 use Rattle.packing.proofs.NumbersBack.{one_group, next_group}
@@ -146,6 +150,28 @@ pub word_room : {used : Bool} (at n : ℕ) → used ≡ true → at + 5 * cond u
 word_room at n u h = rw u at h
 
 -- ---- a node's words
+
+-- an operation's mask has a bit, and its highest is that of word 16 or of one before
+all_positive : all_below operation_count (λ (op : ℕ). ltb 0 (get_or masks op 0)) ≡ true
+unfolding all_below mask_of masks
+all_positive = refl
+
+module _ (op : ℕ) (known : op < operation_count) where
+  pub mask_positive : 0 < get_or masks op 0
+  mask_positive = ltb-true 0 (get_or masks op 0) (all_below_lem operation_count (λ (op : ℕ). ltb 0 (get_or masks op 0)) all_positive op known)
+
+  module _ (last : ℕ) where
+    pub last_few : 2 ^ last ≤ get_or masks op 0 → last ≤ 16
+    last_few low =
+        bool_cases (leb last 16) (leb-true last 16)
+        (λ e.
+        ⊎_elim
+        (λ (q : 17 ≡ last). absurd (omega (arith, rw (← q) at low, mask_low op known)))
+        (λ (q : 17 < last). absurd (omega (arith, low, pow_below 17 last q, mask_low op known)))
+        (eq-or-lt_of_le (leb-false last 16 e)))
+
+    pub last_bit : get_or masks op 0 < 2 * 2 ^ last → get_or masks op 0 / 2 ^ last ≤ 1
+    last_bit high = omega (arith, (div-lt_iff_lt-mul (pow_pos last)).1 high)
 
 -- no word after the last bit is used
 words_rest : (w : List ℤ) (op : ℕ) → op < operation_count → (k j : ℕ) → k + j ≤ 16 → get_or masks op 0 / 2 ^ k ≤ 1 → words_to op w (k + j) ≡ words_to op w k

@@ -62,17 +62,15 @@ fn word(w: i64, used: bool, bytes: &mut [u8], at: usize) -> usize
     at
 }
 
-// The used words of a node from place `at` on, as far as the mask has bits; the place after them.
+// The used words of a node from place `at` on, the last of which the mask's highest bit names; the place after them.
 fn words(w: &[i64], op: Operation, bytes: &mut [u8], at: usize) -> usize
     requires { (length w.now ≡ 17) × (at + 45 ≤ length bytes.old) }
     ensures { Writes (words_to (number_of op) w.now 16) 45 bytes.old at bytes.new result }
 {
     let mask = plan::used_mask(op.number());
+    let last = mask.ilog2() as usize;
     let mut to = at;
-    for k in 0..16 {
-        if mask >> k <= 1 {
-            break;
-        }
+    for k in 0..last {
         let used = plan::uses_word(mask, k + 1);
         to = word(w[k + 1], used, bytes, to);
     }
