@@ -236,25 +236,16 @@ fn few_gaps(flags: &[u8], from: usize, n: usize) -> u8
     gaps
 }
 
-// How many of n to count at once.
-fn a_few(n: usize) -> usize
-    ensures { (result ≤ n) × (result ≤ 192) × (0 < n → 0 < result) }
-{
-    if n < 192 { n } else { 192 }
-}
-
-// The gaps among n flags. A loop by hand: slices have no `chunks` here.
+// The gaps among n flags, 192 at a time.
 pub fn count_gaps(flags: &[u8], from: usize, n: usize) -> usize
     requires { from + n ≤ length flags.now }
     ensures { result ≡ gaps_from flags.now from n }
 {
     let mut gaps = 0;
-    let mut i = 0;
-    while i < n {
-        let few = a_few(n - i);
-        let more = few_gaps(flags, from + i, few);
-        gaps += more as usize;
-        i += few;
+    for part in 0..n.div_ceil(192) {
+        let i = part * 192;
+        let few = (n - i).min(192);
+        gaps += few_gaps(flags, from + i, few) as usize;
     }
     gaps
 }

@@ -1,9 +1,6 @@
-use Rattle.std.proofs.Common.{◌≡◌, ◌-◌, ◌≤◌}
+use Rattle.std.proofs.Common.{◌≡◌, ◌*◌, min}
 use Rattle.inputs.specs.Scanning.{gaps_from}
 use Rattle.inputs.proofs.count_gaps.Given as goal
 
-abbrev pub invariant-loop-i : goal.invariant-loop-i
-invariant-loop-i l = (l.i ≤ l.n) × (l.gaps ≡ gaps_from l.flags l.from l.i)
-
-abbrev pub decreases-loop-i : goal.decreases-loop-i
-decreases-loop-i l = l.n - l.i
+abbrev pub invariant-loop-part : goal.invariant-loop-part
+invariant-loop-part l = l.gaps ≡ gaps_from l.flags l.from (min (l.part * 192) l.n)
