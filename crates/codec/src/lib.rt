@@ -67,6 +67,7 @@ fn groups(bytes: &[u8], from: usize, first: usize) -> Result<Number, Refusal>
 {
     let mut value = first % 128;
     let mut scale = 128;
+    // Counted from 1, so that the compiler knows how many there are.
     for i in 1..5 {
         let at = from + i;
         if bytes.len() <= at {

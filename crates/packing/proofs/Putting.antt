@@ -46,13 +46,6 @@ pub put_none : (k m : ℕ) (before : List ℕ) (at : ℕ) → Put k m before at 
 put_none k m before at = record { done = []; wrote = nothing before at; so_far = refl; many = omega arith }
 
 module _ {k m : ℕ} {before now : List ℕ} {at rest to left : ℕ} (p : Put k m before at now rest to left) where
-  -- room for what may still come
-  pub put_room : at + k ≤ length before → to + left ≤ length now
-  put_room h = room_left left k p.wrote h (omega (arith, p.many))
-
-  pub put_length : length now ≡ length before
-  put_length = same_room p.wrote
-
   pub put_last : {v : ℕ} → 0 < left → rest < 128 → v ≡ rest → Writes (groups_of k m) k before at (set now to v) (to + 1)
   put_last {v} some h e = by left some p.so_far p.many
     where

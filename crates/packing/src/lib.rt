@@ -21,6 +21,7 @@ fn groups(k: usize, m: usize, bytes: &mut [u8], at: usize) -> usize
     ensures { Writes (groups_of k m) k bytes.old at bytes.new result }
 {
     let mut rest = m;
+    // Counted from 0, so that the compiler knows how many there are: a range of places packs more slowly.
     for i in 0..k {
         let to = at + i;
         if rest < 128 {
