@@ -25,7 +25,7 @@ pub struct Lines {
 fn steps_by(l: Line, up: usize) -> bool
     ensures { result ≡ true → l ≡ record { place = l.place; stride = stride_of up 0 } }
 {
-    views::is_stride(l.stride, up, 0)
+    (l.stride.up == up) & (l.stride.down == 0)
 }
 
 impl Lines {

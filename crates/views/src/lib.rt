@@ -1,7 +1,7 @@
 // Views: where each element of a result finds its source in a buffer, by strides.
 #![tactic(auto)]
 
-ghost use Rattle.std.specs.Prelude.{◌≡◌, true, cond, ◌++◌, ℕ, ◌+◌, ◌*◌, ◌-◌, ◌^◌, ◌≤◌, ◌<◌, length, take, replicate, get_or};
+ghost use Rattle.std.specs.Prelude.{◌≡◌, cond, ◌++◌, ℕ, ◌+◌, ◌*◌, ◌-◌, ◌^◌, ◌≤◌, ◌<◌, length, take, replicate, get_or};
 ghost use Rattle.plan.specs.Words.{list_of};
 ghost use Rattle.shapes.specs.Shown.{shown};
 ghost use Rattle.views.specs.Views.{stride_of, step, span, row_place, row_reach, reach, rows_of};
@@ -30,13 +30,6 @@ pub struct View {
     pub s1: Stride,
     pub s2: Stride,
     pub s3: Stride,
-}
-
-// The stride is this one.
-pub fn is_stride(s: Stride, up: usize, down: usize) -> bool
-    ensures { result ≡ true → s ≡ stride_of up down }
-{
-    (s.up == up) & (s.down == down)
 }
 
 // What coordinate c adds along an axis of extent n.
