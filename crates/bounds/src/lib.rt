@@ -18,7 +18,7 @@ pub struct Bounds {
     pub high: i32,
 }
 
-// The smaller of two.
+// The smaller of two. By the definition's own words: std's `min` is said over an order of its own, and each corner would have to be led back to `min_z`.
 pub fn least(a: i64, b: i64) -> i64
     ensures { result ≡ min_z a b }
 {

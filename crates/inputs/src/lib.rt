@@ -217,7 +217,7 @@ pub fn param_flags(flags: &mut [u8], known: &[u8], from: usize, n: usize, to: us
     }
 }
 
-// 1 for a gap, 0 for a known cell.
+// 1 for a gap, 0 for a known cell: `known_flag` the other way round, and a parameter for which of the two would be no plainer.
 fn one_if_gap(flag: u8) -> u8
     ensures { result ≡ (if nat_eq flag 1 then 0 else 1) }
 {

@@ -19,7 +19,7 @@ pub use operations::{Operation, UnknownOperation};
 #[derive(Clone, Copy, Debug, PartialEq, Eq)]
 pub struct NodeNumber(pub usize);
 
-// The number of an element in its node, row-major.
+// The number of an element in its node, row-major. A type of its own, not one with NodeNumber: neither is ever taken for the other.
 #[derive(Clone, Copy, Debug, PartialEq, Eq)]
 pub struct ElementNumber(pub usize);
 
@@ -55,7 +55,7 @@ pub struct Node {
     pub rowb: Row,
 }
 
-// What a call answers: 0 or the refusal's number, its place, and what the call counts.
+// What a call answers: 0 or the refusal's number, its place, and what the call counts. Three numbers, since C reads them.
 #[repr(C)]
 #[derive(Clone, Copy, Debug, PartialEq, Eq)]
 pub struct Answer {
@@ -88,7 +88,7 @@ pub fn uses_word(mask: usize, k: usize) -> bool
     (mask >> k) % 2 == 1
 }
 
-// The whole numbers of a type.
+// The whole numbers of a type, by its number: the definition `range_of` has a range for every number, and word 4 of a node may be any.
 pub fn type_range(t: usize) -> Interval
     ensures { result ≡ range_of t }
 {

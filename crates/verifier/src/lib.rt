@@ -56,7 +56,7 @@ fn source_record(x: Node, k: usize, r: Record) -> Record
     rules::blank()
 }
 
-// 1 for a PARAM, else 0.
+// 1 for a PARAM, else 0. By the number, as the definition `if_param` asks.
 fn one_if_param(op: usize) -> usize
     ensures { result ≡ cond (eqb op 1) 1 0 }
 {
