@@ -33,11 +33,11 @@ pub enum Fault {
     Edition = 26,
 }
 
-// Why a call refuses, and where.
+// Why a call refuses, and where. The place first: in a Result it then lies where an Ok has its number, and both are read whole.
 #[derive(Clone, Copy, Debug, PartialEq, Eq)]
 pub struct Refusal {
-    pub fault: Fault,
     pub place: usize,
+    pub fault: Fault,
 }
 
 impl Fault {
