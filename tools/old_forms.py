@@ -103,7 +103,7 @@ def point2(items):
     for i in items:
         if i.kind == "fn" and len(i.body.split()) > 8:
             groups[bare(i.head + "{" + i.body)].append(i)
-        if i.kind == "struct":
+        if i.kind == "struct" and ("(" in i.body or "{" in i.body):
             groups[bare(re.sub(r"struct \w+", "struct S", i.body))].append(i)
     # twins whose operation or callee is named after the buffer
     for group in groups.values():
