@@ -432,7 +432,7 @@ def write(path, text):
 def in_copy(text):
     """Text with the paths that its modules have in the copy: Rattle.plan.specs.Words is Rattle.definitions.specs.Plan.Words there."""
     text = re.sub(r'\bRattle\.guarantees\.proofs\b', 'Rattle.definitions.proofs', text)
-    text = re.sub(rf'\bRattle\.(?:{"|".join(CRATES)})\.specs\.declared\b', 'Rattle.definitions.specs.declared', text)
+    text = re.sub(rf'\bRattle\.(?:{"|".join(CRATES)})\.specs\.declared\b(?:\.[a-z]\w*)?', 'Rattle.definitions.specs.declared', text)
     return re.sub(rf'\bRattle\.({"|".join(CRATES)})\.specs\b', lambda match: f'Rattle.definitions.specs.{match[1].title()}', text)
 
 
@@ -443,15 +443,19 @@ def place_of(file):
 
 
 def copy_definitions(folder):
-    """The definitions alone: specs/, and of the code the types that it declares."""
-    types, modules = [], []
+    """The definitions alone: specs/, and of the code the types that it declares, with what their ghost fields cite."""
+    types, ghosts, modules = [], [], []
     for crate in CRATES:
         for path in sorted(glob.glob(f'crates/{crate}/specs/*.antt', root_dir=ROOT)):
             write(os.path.join(folder, place_of(path[len('crates/'):])), in_copy(text_of(os.path.join(ROOT, path))))
             modules += [crate] * path.endswith('/Lib.antt')
-        types += re.findall(r'^(?:#\[.*\]\n)*(?:pub )?(?:struct|enum) \w+(?: \{.*?^\}|[^{;]*;)',
-                            text_of(os.path.join(ROOT, 'crates', crate, 'src', 'lib.rt')), re.S | re.M)
-    for path, text in ((f'{COPY}/src/lib.rt', '#![tactic(auto)]\n\n' + '\n\n'.join(types) + '\n'),
+        for path in sorted(glob.glob(f'crates/{crate}/src/*.rt', root_dir=ROOT)):
+            text = text_of(os.path.join(ROOT, path))
+            here = re.findall(r'^(?:pub )?(?:struct|enum) \w+(?: \{.*?^\}|[^{;]*;)', text, re.S | re.M)
+            types += ['#[derive(Clone, Copy)]\n' + kind for kind in here]
+            if any(re.search(r'^    (?:pub )?ghost ', kind, re.M) for kind in here):
+                ghosts += [in_copy(line) for line in re.findall(r'^ghost use .*;$', text, re.M)]
+    for path, text in ((f'{COPY}/src/lib.rt', '\n\n'.join(['#![tactic(auto)]', '\n'.join(ghosts), *types]) + '\n'),
                        (f'{COPY}/specs/Lib.antt', ''.join(f'pub mod {crate.title()}\n' for crate in modules)),
                        (f'{COPY}/proofs/Lib.antt', 'pub mod Everything\npub mod Refuted\n'),
                        (f'{COPY}/proofs/Everything.antt', in_copy(text_of(os.path.join(ROOT, EVERYTHING)))),
