@@ -6,7 +6,7 @@ use mathlib.Core.List.{List}
 use native.Mathlib.Nat.{le_refl, mod-lt, pow-succ', one-le-pow, mul-le-mul_left}
 use native.Mathlib.Numerals.{sub-one}
 use native.Mathlib.Omega.{arith}
-use borrow.Author.Tests.{lt-ltb, le-ltb, ne_eqb}
+use borrow.Author.Tests.{lt-ltb, le-ltb, eq-eqb, ne_eqb}
 use lib.Dec.{ltb, eqb, lit<}
 use lib.ListN.{length, get_or}
 use Rattle.plan.specs.Answers.{Outcome, accepted, refused, refuse, and_then}
@@ -109,9 +109,13 @@ module _ (s : List ℕ) (from : ℕ) where
               room = room_next;
             }
 
--- a byte that is not 0 is no padding
-pub last_other : (from at b : ℕ) → (b ≡ 0 → ⊥) → (eqb b 0 && ltb from at) ≡ false
-last_other from at b z = simp (ne_eqb b 0 z)
+-- whether a byte after the first is a last byte of 0
+module _ (from at b : ℕ) where
+  pub last_zero : from < at → b ≡ 0 → (eqb b 0 && ltb from at) ≡ true
+  last_zero l z = simp (eq-eqb b 0 z, lt-ltb from at l)
+
+  pub last_other : (b ≡ 0 → ⊥) → (eqb b 0 && ltb from at) ≡ false
+  last_other z = simp (ne_eqb b 0 z)
 
 pub ruleset reach-laws = (reach_none, reach_end, reach_padded, reach_last, last_other)
 

@@ -80,7 +80,7 @@ fn groups(bytes: &[u8], from: usize, first: usize) -> Result<Number, Refusal>
             }
             return Ok(Number {
                 value: value + scale * byte,
-                next: at + 1,
+                next: from + (i + 1),
             });
         }
         value += scale * (byte % 128);

@@ -19,6 +19,9 @@ use plan::Operation;
 use validity::Lines;
 use views::{Grid, Line, View};
 
+// How many cells of a row go through its loops together.
+const PART: usize = 1024;
+
 // WHERE: the second number where the first is not 0, else the third.
 struct Chosen;
 
@@ -146,19 +149,19 @@ fn lines_from(lines: Lines, n: usize, i: usize) -> Lines
     }
 }
 
-// The cells of a row in parts of 1024: what one loop leaves in the nearest cache the next finds there.
+// The cells of a row in parts: what one loop leaves in the nearest cache the next finds there.
 fn mix_parts(values: &mut [i64], flags: &mut [u8], op: Operation, lines: Lines, n: usize, to: usize)
     requires { Rising lines × Mixes op × Sources values.old lines n to × (to + n ≤ length values.old) × (to + n ≤ length flags.old) }
     ensures { (values.new ≡ store values.old to n (λ (j : ℕ). along (mix_value (number_of op)) values.old flags.old lines n j)) × (flags.new ≡ store flags.old to n (λ (j : ℕ). along (mix_flag (number_of op)) values.old flags.old lines n j)) }
 {
-    for part in 0..n.div_ceil(1024) {
-        let i = part * 1024;
-        let m = (n - i).min(1024);
+    for part in 0..n.div_ceil(PART) {
+        let i = part * PART;
+        let m = (n - i).min(PART);
         mix_row(values, flags, op, lines_from(lines, n, i), m, to + i);
     }
 }
 
-// The cells of a row that may be long.
+// The cells of a row, in parts where it is longer than one: the lines of a part are made anew, which a short row has no use for.
 fn mix_long_row(
     values: &mut [i64],
     flags: &mut [u8],
@@ -170,7 +173,7 @@ fn mix_long_row(
     requires { Mixes op × Sources values.old lines n to × (to + n ≤ length values.old) × (to + n ≤ length flags.old) }
     ensures { (values.new ≡ store values.old to n (λ (j : ℕ). along (mix_value (number_of op)) values.old flags.old lines n j)) × (flags.new ≡ store flags.old to n (λ (j : ℕ). along (mix_flag (number_of op)) values.old flags.old lines n j)) }
 {
-    if rising(lines) {
+    if (PART < n) & rising(lines) {
         mix_parts(values, flags, op, lines, n, to);
     } else {
         mix_row(values, flags, op, lines, n, to);

@@ -1,7 +1,7 @@
 // Numbers and words in the frames of the program `vectors`, little-endian: a size has two bytes, a number and a word have eight.
 #![tactic(auto)]
 
-ghost use Rattle.std.specs.Prelude.{◌≡◌, ℕ, ◌+◌, ◌*◌, ◌<◌, ◌%◌, ◌↔◌, map, length, take, drop, IsTrue, MatchResult, slice_index_or, EachIndex, pos, ℤ};
+ghost use Rattle.std.specs.Prelude.{◌≡◌, ℕ, ◌+◌, ◌*◌, ◌<◌, ◌≤◌, ◌%◌, ◌↔◌, map, length, take, drop, IsTrue, MatchResult, slice_index_or, EachIndex, pos, ℤ};
 ghost use Rattle.std.specs.Int.{w16, w64, from_le_bytes};
 ghost use Rattle.std.specs.Simd.{first_chunks};
 ghost use Rattle.framing.specs.Words.{word_of};
@@ -72,27 +72,31 @@ pub fn all_words(bytes: &[u8]) -> Result<&[[u8; 8]], Malformed>
     Ok(words)
 }
 
-// The words, into the front of the cells.
-pub fn read_words<'a>(words: &[[u8; 8]], cells: &'a mut [i64]) -> Result<&'a [i64], Malformed>
-    ensures { MatchResult result (λ table. table.now ≡ map word_of words.now) (λ _. length cells.old < length words.now) }
+// The first cells of a buffer, as many as asked for.
+pub fn front(cells: &mut [i64], count: usize) -> Result<&mut [i64], Malformed>
+    ensures { MatchResult result (λ front. length front.now ≡ count) (λ _. length cells.old < count) }
 {
-    let table = cells.get_mut(..words.len()).ok_or(Malformed)?;
-    // By place, since a proof knows nothing of what is written through a `zip`.
-    for (k, word) in words.iter().enumerate() {
-        table[k] = i64::from_le_bytes(*word);
-    }
-    Ok(table)
+    cells.get_mut(..count).ok_or(Malformed)
 }
 
-// The front of the cells, with the pattern that a buffer holds before a call: word k is 1000 + k.
-pub fn fill(cells: &mut [i64], room: u16) -> Result<&mut [i64], Malformed>
-    ensures { MatchResult result (λ front. (length front.now ≡ room) × EachIndex front.now (λ k. slice_index_or front.now k (pos 0) ≡ pos (1000 + k))) (λ _. length cells.old < room) }
+// The first words, into the table: as many as it has cells.
+pub fn read_words(words: &[[u8; 8]], table: &mut [i64])
+    requires { length table.old ≤ length words.now }
+    ensures { table.new ≡ map word_of (take (length table.old) words.now) }
 {
-    let front = cells.get_mut(..usize::from(room)).ok_or(Malformed)?;
-    for (k, cell) in front.iter_mut().enumerate() {
+    // By place, since a proof knows nothing of what is written through a `zip`.
+    for k in 0..table.len() {
+        table[k] = i64::from_le_bytes(words[k]);
+    }
+}
+
+// The pattern that a buffer holds before a call: word k is 1000 + k.
+pub fn fill(buffer: &mut [i64])
+    ensures { (length buffer.new ≡ length buffer.old) × EachIndex buffer.new (λ k. slice_index_or buffer.new k (pos 0) ≡ pos (1000 + k)) }
+{
+    for (k, cell) in buffer.iter_mut().enumerate() {
         *cell = 1000 + k as i64;
     }
-    Ok(front)
 }
 
 // Whether the cells are the words.

@@ -2,7 +2,7 @@ ghost use Rattle.std.specs.Prelude.{◌≡◌, Result};
 ghost use Rattle.plan.specs.Answers.{answer_of};
 ghost use Rattle.plan.specs.Coded.{outcome_of};
 
-use crate::Answer;
+use crate::{Answer, accepted, refused};
 
 // Why a call refuses: the number of each is the one that a caller is told.
 #[derive(Clone, Copy, Debug, PartialEq, Eq)]
@@ -54,16 +54,8 @@ impl From<Result<u64, Refusal>> for Answer {
 
     fn from(ended: Result<u64, Refusal>) -> Answer {
         match ended {
-            Ok(count) => Answer {
-                number: 0,
-                place: 0,
-                count,
-            },
-            Err(refusal) => Answer {
-                number: refusal.fault as u64,
-                place: refusal.place as u64,
-                count: 0,
-            },
+            Ok(count) => accepted(count),
+            Err(refusal) => refused(refusal.fault as u64, refusal.place as u64),
         }
     }
 }

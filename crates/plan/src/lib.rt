@@ -6,7 +6,7 @@ mod instructions;
 mod operations;
 
 ghost use Rattle.std.specs.Prelude.{◌≡◌, cond, pos, ◌+◌, ◌*◌, ◌/◌, ◌%◌, ◌^◌, ◌<◌, ◌≤◌, eqb, length, get_or};
-ghost use Rattle.plan.specs.Operations.{masks};
+ghost use Rattle.plan.specs.Operations.{is_operation, masks};
 ghost use Rattle.plan.specs.Types.{range_of};
 ghost use Rattle.plan.specs.Coded.{number_of};
 ghost use Rattle.plan.specs.Words.{size_of, size_at, row_at, node_of, node_at, length_right, in_number, reads, unused_zero};
@@ -64,11 +64,40 @@ pub struct Answer {
     pub count: u64,
 }
 
+// The answer of a call that accepts.
+pub fn accepted(count: u64) -> Answer
+    ensures { result ≡ record { number = 0; place = 0; count = count } }
+{
+    Answer {
+        number: 0,
+        place: 0,
+        count,
+    }
+}
+
+// The answer of a call that refuses.
+pub fn refused(number: u64, place: u64) -> Answer
+    ensures { result ≡ record { number = number; place = place; count = 0 } }
+{
+    Answer {
+        number,
+        place,
+        count: 0,
+    }
+}
+
 // The words that each operation uses, by its number: bit k for word k.
 const MASKS: [usize; 24] = [
     48, 8176, 7682, 7682, 7682, 7682, 130562, 130562, 18, 6, 6, 6, 6, 6, 6, 6, 6, 6, 14, 7714, 66,
     6, 2, 46,
 ];
+
+// An operation has this number.
+pub fn is_operation(op: usize) -> bool
+    ensures { result ≡ is_operation op }
+{
+    op < MASKS.len()
+}
 
 // The mask of an operation, 0 where there is no such operation.
 pub fn used_mask(op: usize) -> usize

@@ -190,7 +190,8 @@ fn row_chosen(flags: &mut [u8], lines: Lines, n: usize, to: usize)
     }
 }
 
-// The flags of a row of a WHERE.
+// The flags of a row of a WHERE. Where the other lines go from place to place, its sides are written first and then chosen by, without a branch; so too
+// where the condition stays in its place along a row: what it is in one row tells nothing of the next.
 fn where_flags(values: &[i64], flags: &mut [u8], lines: Lines, n: usize, to: usize)
     requires { Before lines n to × (to + n ≤ length values.now) × (to + n ≤ length flags.old) }
     ensures { flags.new ≡ store flags.old to n (λ (j : ℕ). along (mix_flag WHERE) values.now flags.old lines n j) }
@@ -198,6 +199,10 @@ fn where_flags(values: &[i64], flags: &mut [u8], lines: Lines, n: usize, to: usi
     if lines.are_stepping(1, 1) {
         unit_sides(values, flags, lines.a.place, n, to);
         row_chosen(flags, lines.stepping(1, 1), n, to);
+    } else if lines.are_stepping(0, 1) {
+        let lines = lines.stepping(0, 1);
+        row_sides(values, flags, lines.a, n, to);
+        row_chosen(flags, lines, n, to);
     } else {
         row_flags(values, flags, Operation::Where, lines, n, to);
     }

@@ -152,6 +152,15 @@ fn wanted(answer: &[u8], cells: usize) -> Result<(Answer, &[[u8; 8]]), Malformed
     Ok((answer, written))
 }
 
+// The words, in the first of the cells.
+fn read_table<'a>(words: &[[u8; 8]], cells: &'a mut [i64]) -> Result<&'a [i64], Malformed>
+    ensures { IfOk result (λ table. length table.now ≡ length words.now) }
+{
+    let table = framing::front(cells, words.len())?;
+    framing::read_words(words, table);
+    Ok(table)
+}
+
 // A case of kind 0.
 fn unpack_check_case(input: &[u8], answer: &[u8]) -> Result<bool, Malformed> {
     let wanted = answer.as_array().ok_or(Malformed)?;
@@ -163,7 +172,8 @@ fn unpack_case(input: &[u8], answer: &[u8]) -> Result<bool, Malformed> {
     let (room, bytes) = framing::size(input)?;
     let (wanted, written) = wanted(answer, usize::from(room))?;
     let mut cells = [0i64; CELLS];
-    let table = framing::fill(&mut cells, room)?;
+    let table = framing::front(&mut cells, usize::from(room))?;
+    framing::fill(table);
     let got = codec::unpack(bytes, table);
     Ok(got == wanted && framing::same_words(table, written))
 }
@@ -173,9 +183,10 @@ fn check_case(input: &[u8], answer: &[u8]) -> Result<bool, Malformed> {
     let (room, words) = framing::size(input)?;
     let (wanted, written) = wanted(answer, usize::from(room))?;
     let mut table = [0i64; CELLS];
-    let table = framing::read_words(framing::all_words(words)?, &mut table)?;
+    let table = read_table(framing::all_words(words)?, &mut table)?;
     let mut cells = [0i64; CELLS];
-    let derived = framing::fill(&mut cells, room)?;
+    let derived = framing::front(&mut cells, usize::from(room))?;
+    framing::fill(derived);
     let got = verifier::check(table, derived);
     Ok(got == wanted && framing::same_words(derived, written))
 }
@@ -219,11 +230,12 @@ fn run_case(input: &[u8], answer: &[u8]) -> Result<bool, Malformed> {
     let (wanted, written) = wanted(answer, value_room + flag_room)?;
     let (values_written, flags_written) = written.split_at(value_room);
     let mut table = [0i64; CELLS];
-    let table = framing::read_words(given.words, &mut table)?;
+    let table = read_table(given.words, &mut table)?;
     let mut values = [0i64; CELLS];
-    let values = framing::read_words(given.values, &mut values)?;
+    let values = read_table(given.values, &mut values)?;
     let mut cells = [0i64; CELLS];
-    let out_values = framing::fill(&mut cells, given.value_room)?;
+    let out_values = framing::front(&mut cells, value_room)?;
+    framing::fill(out_values);
     let mut flags = [9u8; CELLS];
     let out_flags = flags.get_mut(..flag_room).ok_or(Malformed)?;
     let got = running::run(table, values, given.flags, out_values, out_flags);
@@ -240,7 +252,7 @@ fn lookup_case(input: &[u8], answer: &[u8]) -> Result<bool, Malformed> {
     let (element, words) = framing::number(rest)?;
     let wanted: &[[u8; 8]; 5] = framing::all_words(answer)?.as_array().ok_or(Malformed)?;
     let mut table = [0i64; CELLS];
-    let table = framing::read_words(framing::all_words(words)?, &mut table)?;
+    let table = read_table(framing::all_words(words)?, &mut table)?;
     let looked = following::lookup(
         table,
         NodeNumber(node as usize),
@@ -263,7 +275,7 @@ fn pack_case(input: &[u8], answer: &[u8]) -> Result<bool, Malformed> {
     let room = usize::from(room);
     let (wanted, written) = wanted(answer, room)?;
     let mut table = [0i64; CELLS];
-    let table = framing::read_words(framing::all_words(words)?, &mut table)?;
+    let table = read_table(framing::all_words(words)?, &mut table)?;
     let mut bytes = [9u8; CELLS];
     let packed = bytes.get_mut(..room).ok_or(Malformed)?;
     let got = packing::pack(table, packed);

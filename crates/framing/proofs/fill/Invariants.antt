@@ -2,4 +2,4 @@ use Rattle.std.proofs.Common.{◌≡◌, ℕ, ◌+◌, ◌<◌, length, slice_in
 use Rattle.framing.proofs.fill.Given as goal
 
 abbrev pub invariant-loop-k : goal.invariant-loop-k
-invariant-loop-k l = (length l.front ≡ l.fn.room) × ((k : ℕ) → k < l.k → slice_index_or l.front k (pos 0) ≡ pos (1000 + k))
+invariant-loop-k l = (length l.buffer ≡ length l.fn.buffer) × ((k : ℕ) → k < l.k → slice_index_or l.buffer k (pos 0) ≡ pos (1000 + k))

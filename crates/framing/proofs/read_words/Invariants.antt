@@ -3,4 +3,4 @@ use Rattle.framing.specs.Words.{word_of}
 use Rattle.framing.proofs.read_words.Given as goal
 
 abbrev pub invariant-loop-k : goal.invariant-loop-k
-invariant-loop-k l = (length l.table ≡ length l.words) × ((k : ℕ) → k < l.k → slice_index_or l.table k (pos 0) ≡ word_of (slice_index_or l.words k []))
+invariant-loop-k l = (length l.table ≡ length l.fn.table) × ((k : ℕ) → k < l.k → slice_index_or l.table k (pos 0) ≡ word_of (slice_index_or l.fn.words k []))
