@@ -80,6 +80,7 @@ fn groups(bytes: &[u8], from: usize, first: usize) -> Result<Number, Refusal>
             }
             return Ok(Number {
                 value: value + scale * byte,
+                // In brackets, since the compiler then keeps this position apart from the one after a number of one byte, which is faster.
                 next: from + (i + 1),
             });
         }

@@ -74,7 +74,7 @@ pub fn all_words(bytes: &[u8]) -> Result<&[[u8; 8]], Malformed>
 
 // The first cells of a buffer, as many as asked for.
 pub fn front(cells: &mut [i64], count: usize) -> Result<&mut [i64], Malformed>
-    ensures { MatchResult result (λ front. length front.now ≡ count) (λ _. length cells.old < count) }
+    ensures { MatchResult result (λ front. (length front.now ≡ count) × (front.now ≡ take count cells.old)) (λ _. length cells.old < count) }
 {
     cells.get_mut(..count).ok_or(Malformed)
 }

@@ -190,8 +190,8 @@ fn row_chosen(flags: &mut [u8], lines: Lines, n: usize, to: usize)
     }
 }
 
-// The flags of a row of a WHERE. Where the other lines go from place to place, its sides are written first and then chosen by, without a branch; so too
-// where the condition stays in its place along a row: what it is in one row tells nothing of the next.
+// The flags of a row of a WHERE. Where its three lines go from place to place, the sides are written first and then chosen by, without a branch; so too
+// where the condition stays in its place along the row and the other two lines go on: what it is in one row tells nothing of the next.
 fn where_flags(values: &[i64], flags: &mut [u8], lines: Lines, n: usize, to: usize)
     requires { Before lines n to × (to + n ≤ length values.now) × (to + n ≤ length flags.old) }
     ensures { flags.new ≡ store flags.old to n (λ (j : ℕ). along (mix_flag WHERE) values.now flags.old lines n j) }

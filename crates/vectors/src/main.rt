@@ -15,8 +15,9 @@
 // tests/tools/vectors.py writes the frames; `vectors.py --list` names the case of each index.
 #![tactic(auto)]
 
-ghost use Rattle.std.specs.Prelude.{◌≡◌, ◌<◌, length, IfOk};
+ghost use Rattle.std.specs.Prelude.{◌≡◌, ◌<◌, map, length, IfOk, MatchResult};
 ghost use Rattle.std.specs.Iterator.{at_most};
+ghost use Rattle.framing.specs.Words.{word_of};
 
 use framing::Malformed;
 use plan::{Answer, ElementNumber, NodeNumber};
@@ -154,7 +155,7 @@ fn wanted(answer: &[u8], cells: usize) -> Result<(Answer, &[[u8; 8]]), Malformed
 
 // The words, in the first of the cells.
 fn read_table<'a>(words: &[[u8; 8]], cells: &'a mut [i64]) -> Result<&'a [i64], Malformed>
-    ensures { IfOk result (λ table. length table.now ≡ length words.now) }
+    ensures { MatchResult result (λ table. table.now ≡ map word_of words.now) (λ _. length cells.old < length words.now) }
 {
     let table = framing::front(cells, words.len())?;
     framing::read_words(words, table);
